@@ -8,6 +8,7 @@ use pm_driver::{Bus, DeadBus, Fault, Patient, SimulatedBus, carry_out, driver_ov
 use pm_host::{Command, Host, Job, JobEnd};
 use pm_limits::Guard;
 use pm_world::{Arrival, Back};
+use std::array;
 
 // What goes wrong with a frame.
 #[derive(Clone, Copy, Debug, Drop, PartialEq)]
@@ -65,20 +66,7 @@ fn fault(wrong: Wrong) -> Fault {
 
 // The faults of these and no more: five at most.
 fn faults(plan: &[Wrong]) -> [Fault; 5] {
-    [
-        fault_at(plan, 0),
-        fault_at(plan, 1),
-        fault_at(plan, 2),
-        fault_at(plan, 3),
-        fault_at(plan, 4),
-    ]
-}
-
-fn fault_at(plan: &[Wrong], number: usize) -> Fault {
-    match plan.get(number) {
-        Some(wrong) => fault(*wrong),
-        None => fault(Whole),
-    }
+    array::from_fn(|number| fault(plan.get(number).copied().unwrap_or(Whole)))
 }
 
 // An order of 34CDh to a cell that holds 1000h, by a plan, the tries of each frame and the passes: how it ends, the word
@@ -93,153 +81,50 @@ struct Ordered {
 }
 
 // Orders over a simulated bus itself, and over a patient one with one try over it.
+#[rattlefmt::skip]
 static ONCE: [Ordered; 11] = [
-    Ordered {
-        plan: &[],
-        tries: 1,
-        passes: 1,
-        end: JobEnd::Done,
-        held: 0x34CD,
-        next: 0,
-    },
+    Ordered { plan: &[], tries: 1, passes: 1, end: JobEnd::Done, held: 0x34CD, next: 0 },
     // A restart before the read-back.
-    Ordered {
-        plan: &[Whole, Restarted],
-        tries: 1,
-        passes: 1,
-        end: JobEnd::Differs(0x1000),
-        held: 0x1000,
-        next: 2,
-    },
-    Ordered {
-        plan: &[Whole, Restarted],
-        tries: 1,
-        passes: 2,
-        end: JobEnd::Done,
-        held: 0x34CD,
-        next: 2,
-    },
-    Ordered {
-        plan: &[Whole, RequestCut],
-        tries: 1,
-        passes: 1,
-        end: JobEnd::Unknown,
-        held: 0x34CD,
-        next: 2,
-    },
-    Ordered {
-        plan: &[Whole, AnswerCut],
-        tries: 1,
-        passes: 1,
-        end: JobEnd::Unknown,
-        held: 0x34CD,
-        next: 2,
-    },
-    Ordered {
-        plan: &[Repeated],
-        tries: 1,
-        passes: 1,
-        end: JobEnd::Done,
-        held: 0x34CD,
-        next: 1,
-    },
-    Ordered {
-        plan: &[Lost],
-        tries: 1,
-        passes: 1,
-        end: JobEnd::Differs(0x1000),
-        held: 0x1000,
-        next: 1,
-    },
-    Ordered {
-        plan: &[WriteCut],
-        tries: 1,
-        passes: 1,
-        end: JobEnd::Differs(0x1000),
-        held: 0x1000,
-        next: 1,
-    },
-    Ordered {
-        plan: &[Unheard],
-        tries: 1,
-        passes: 1,
-        end: JobEnd::Differs(0x1000),
-        held: 0x1000,
-        next: 1,
-    },
-    Ordered {
-        plan: &[Whole, Unheard],
-        tries: 1,
-        passes: 1,
-        end: JobEnd::Unknown,
-        held: 0x34CD,
-        next: 2,
-    },
+    Ordered { plan: &[Whole, Restarted], tries: 1, passes: 1, end: JobEnd::Differs(0x1000),
+        held: 0x1000, next: 2 },
+    Ordered { plan: &[Whole, Restarted], tries: 1, passes: 2, end: JobEnd::Done, held: 0x34CD,
+        next: 2 },
+    Ordered { plan: &[Whole, RequestCut], tries: 1, passes: 1, end: JobEnd::Unknown, held: 0x34CD,
+        next: 2 },
+    Ordered { plan: &[Whole, AnswerCut], tries: 1, passes: 1, end: JobEnd::Unknown, held: 0x34CD,
+        next: 2 },
+    Ordered { plan: &[Repeated], tries: 1, passes: 1, end: JobEnd::Done, held: 0x34CD, next: 1 },
+    Ordered { plan: &[Lost], tries: 1, passes: 1, end: JobEnd::Differs(0x1000), held: 0x1000,
+        next: 1 },
+    Ordered { plan: &[WriteCut], tries: 1, passes: 1, end: JobEnd::Differs(0x1000), held: 0x1000,
+        next: 1 },
+    Ordered { plan: &[Unheard], tries: 1, passes: 1, end: JobEnd::Differs(0x1000), held: 0x1000,
+        next: 1 },
+    Ordered { plan: &[Whole, Unheard], tries: 1, passes: 1, end: JobEnd::Unknown, held: 0x34CD,
+        next: 2 },
     // It restarts with a frame that it doesn't hear, too.
-    Ordered {
-        plan: &[Whole, RestartedUnheard, Lost, Whole],
-        tries: 1,
-        passes: 2,
-        end: JobEnd::Differs(0x1000),
-        held: 0x1000,
-        next: 4,
-    },
+    Ordered { plan: &[Whole, RestartedUnheard, Lost, Whole], tries: 1, passes: 2,
+        end: JobEnd::Differs(0x1000), held: 0x1000, next: 4 },
 ];
 
 // Orders over nothing but a patient bus.
+#[rattlefmt::skip]
 static PATIENT: [Ordered; 6] = [
-    Ordered {
-        plan: &[Unheard, Unheard, Whole, Unheard, Unheard],
-        tries: 3,
-        passes: 1,
-        end: JobEnd::Done,
-        held: 0x34CD,
-        next: 5,
-    },
+    Ordered { plan: &[Unheard, Unheard, Whole, Unheard, Unheard], tries: 3, passes: 1,
+        end: JobEnd::Done, held: 0x34CD, next: 5 },
     // Both tries of the write are spent, and the read comes through.
-    Ordered {
-        plan: &[Unheard, Unheard, Whole],
-        tries: 2,
-        passes: 1,
-        end: JobEnd::Differs(0x1000),
-        held: 0x1000,
-        next: 3,
-    },
+    Ordered { plan: &[Unheard, Unheard, Whole], tries: 2, passes: 1, end: JobEnd::Differs(0x1000),
+        held: 0x1000, next: 3 },
     // A read that may have been heard isn't sent again, and neither is such a write.
-    Ordered {
-        plan: &[Whole, AnswerCut, Whole],
-        tries: 3,
-        passes: 1,
-        end: JobEnd::Unknown,
-        held: 0x34CD,
-        next: 2,
-    },
-    Ordered {
-        plan: &[Failed, Whole],
-        tries: 3,
-        passes: 1,
-        end: JobEnd::Differs(0x1000),
-        held: 0x1000,
-        next: 2,
-    },
+    Ordered { plan: &[Whole, AnswerCut, Whole], tries: 3, passes: 1, end: JobEnd::Unknown,
+        held: 0x34CD, next: 2 },
+    Ordered { plan: &[Failed, Whole], tries: 3, passes: 1, end: JobEnd::Differs(0x1000),
+        held: 0x1000, next: 2 },
     // The converter restarts between two tries of the read.
-    Ordered {
-        plan: &[Whole, RestartedUnheard, Whole],
-        tries: 2,
-        passes: 1,
-        end: JobEnd::Differs(0x1000),
-        held: 0x1000,
-        next: 3,
-    },
+    Ordered { plan: &[Whole, RestartedUnheard, Whole], tries: 2, passes: 1,
+        end: JobEnd::Differs(0x1000), held: 0x1000, next: 3 },
     // With no try nothing is sent.
-    Ordered {
-        plan: &[Whole],
-        tries: 0,
-        passes: 1,
-        end: JobEnd::Unknown,
-        held: 0x1000,
-        next: 0,
-    },
+    Ordered { plan: &[Whole], tries: 0, passes: 1, end: JobEnd::Unknown, held: 0x1000, next: 0 },
 ];
 
 // A clear of the second output's faults, with two passes, by a plan.
@@ -309,10 +194,7 @@ fn each_fault_of_a_plan_is_done(rt: HostRuntime) {
         equal(&rt, &carry_order(row), &wanted, &number);
         equal(&rt, &carry_order_patiently(row), &wanted, &number);
     }
-}
-
-#[test]
-fn what_was_unheard_is_sent_again(rt: HostRuntime) {
+    // What was unheard is sent again.
     for (number, row) in PATIENT.iter().enumerate() {
         let wanted = Some((Some(row.end), (row.held, row.next)));
         equal(&rt, &carry_order_patiently(row), &wanted, &number);

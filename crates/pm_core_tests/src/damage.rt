@@ -10,12 +10,8 @@ use std::process::Abort;
 use std::test::Fail;
 
 // A frame of each layout that is written: by PAGE_PLUS_WRITE, of a byte, of a word, and of no data.
-static WRITES: [&str; 4] = [
-    "B0 05 04 00 21 CD 34 5A",
-    "B0 10 80 34",
-    "B0 21 CD 34 38",
-    "B0 03 46",
-];
+#[rattlefmt::skip]
+static WRITES: [&str; 4] = ["B0 05 04 00 21 CD 34 5A", "B0 10 80 34", "B0 21 CD 34 38", "B0 03 46"];
 
 const MODE: Message = Message::ReadCommand { code: 0x20 };
 
@@ -39,16 +35,10 @@ static READS: [(Message, &str, &str); 4] = [
     (COEFFICIENTS, "B0 30 02 21 00", "B1 05 01 00 00 00 03 6B"),
 ];
 
-const DIRECT: OutputStart = OutputStart {
-    mode: 0x40,
-    ..OUTPUT
-};
+const DIRECT: OutputStart = with! { OutputStart, OUTPUT; mode: 0x40 };
 
 // The first output holds what the answers say, the second is DIRECT, in millivolts.
-const HOLDS: OutputStart = OutputStart {
-    command: 0x34CD,
-    ..OUTPUT
-};
+const HOLDS: OutputStart = with! { OutputStart, OUTPUT; command: 0x34CD };
 
 const MIXED: Config = Config {
     addr: 0x58,

@@ -4,44 +4,28 @@
 ghost use Rattle.std.specs.Prelude.{◌<◌};
 
 use crate::checks::{equal, is_true};
+use pm_delivery::Question::{
+    Before, OvFaultLimit, OvWarnLimit, PowerGoodOff, PowerGoodOn, ReadVout, StatusInput,
+    StatusIout, StatusTemperature, StatusVout, StatusWord, UvFaultLimit, UvWarnLimit,
+};
 use pm_delivery::{Delivery, Due, Question, Reading, Verdict, answers_off};
 use pm_frame::{pec, pec_after};
 use pm_rail::Power;
 
 // The command code of each register that is asked, and how many bytes it has.
+#[rattlefmt::skip]
 static CODES: [(Question, u8, usize); 13] = [
-    (Question::Before, 0x79, 2),
-    (Question::OvFaultLimit, 0x40, 2),
-    (Question::OvWarnLimit, 0x42, 2),
-    (Question::UvWarnLimit, 0x43, 2),
-    (Question::UvFaultLimit, 0x44, 2),
-    (Question::StatusWord, 0x79, 2),
-    (Question::StatusVout, 0x7A, 1),
-    (Question::StatusIout, 0x7B, 1),
-    (Question::StatusInput, 0x7C, 1),
-    (Question::StatusTemperature, 0x7D, 1),
-    (Question::ReadVout, 0x8B, 2),
-    (Question::PowerGoodOn, 0x5E, 2),
-    (Question::PowerGoodOff, 0x5F, 2),
+    (Before, 0x79, 2), (OvFaultLimit, 0x40, 2), (OvWarnLimit, 0x42, 2), (UvWarnLimit, 0x43, 2),
+    (UvFaultLimit, 0x44, 2), (StatusWord, 0x79, 2), (StatusVout, 0x7A, 1), (StatusIout, 0x7B, 1),
+    (StatusInput, 0x7C, 1), (StatusTemperature, 0x7D, 1), (ReadVout, 0x8B, 2),
+    (PowerGoodOn, 0x5E, 2), (PowerGoodOff, 0x5F, 2),
 ];
-
-#[test]
-fn each_question_reads_its_register(rt: HostRuntime) {
-    for (question, code, size) in &CODES {
-        equal(
-            &rt,
-            &(question.code().0, question.size()),
-            &(*code, *size),
-            question,
-        );
-    }
-}
 
 // A delivery of an output whose STATUS_WORD was 0000h before its order.
 fn after_order() -> Delivery {
     let mut delivery = Delivery::new(0, 0, 0, 50, 1);
     delivery.look_before();
-    delivery.hear(Question::Before, Ok(0));
+    delivery.hear(Before, Ok(0));
     delivery.look_after(false, false);
     delivery
 }
@@ -49,10 +33,10 @@ fn after_order() -> Delivery {
 // What it says with this STATUS_WORD, if READ_VOUT is right.
 fn said(status: u16) -> Verdict {
     let mut delivery = after_order();
-    delivery.hear(Question::StatusWord, Ok(status));
-    delivery.hear(Question::ReadVout, Ok(0x1000));
-    delivery.hear(Question::PowerGoodOn, Ok(0));
-    delivery.hear(Question::PowerGoodOff, Ok(0));
+    delivery.hear(StatusWord, Ok(status));
+    delivery.hear(ReadVout, Ok(0x1000));
+    delivery.hear(PowerGoodOn, Ok(0));
+    delivery.hear(PowerGoodOff, Ok(0));
     delivery.verdict(1, Power::On, Reading::Right)
 }
 
@@ -62,9 +46,9 @@ static WORDS: [(u16, Verdict); 17] = [
     (0x0001, Verdict::Delivers), // NONE OF THE ABOVE
     (0x0002, Verdict::Delivers), // CML
     (0x0004, Verdict::NotYet), // TEMPERATURE
-    (0x0008, Verdict::NewFault(Question::StatusWord, 3)), // VIN_UV_FAULT
-    (0x0010, Verdict::NewFault(Question::StatusWord, 4)), // IOUT_OC_FAULT
-    (0x0020, Verdict::NewFault(Question::StatusWord, 5)), // VOUT_OV_FAULT
+    (0x0008, Verdict::NewFault(StatusWord, 3)), // VIN_UV_FAULT
+    (0x0010, Verdict::NewFault(StatusWord, 4)), // IOUT_OC_FAULT
+    (0x0020, Verdict::NewFault(StatusWord, 5)), // VOUT_OV_FAULT
     (0x0040, Verdict::IsOff), // OFF
     (0x0080, Verdict::Delivers), // BUSY
     (0x0100, Verdict::Delivers), // UNKNOWN
@@ -78,7 +62,12 @@ static WORDS: [(u16, Verdict); 17] = [
 ];
 
 #[test]
-fn each_bit_of_status_word_decides_or_is_told(rt: HostRuntime) {
+fn each_question_and_each_bit_of_status_word_has_its_meaning(rt: HostRuntime) {
+    // Each question reads its register.
+    for (question, code, size) in &CODES {
+        compare! { &rt, question; (question.code().0, question.size()) => (*code, *size) }
+    }
+    // Each bit of STATUS_WORD decides or is told.
     for (status, verdict) in &WORDS {
         equal(&rt, &said(*status), verdict, status);
     }
@@ -87,13 +76,13 @@ fn each_bit_of_status_word_decides_or_is_told(rt: HostRuntime) {
 // A bit of STATUS_WORD, the register that it points to, and the bits of that which say a fault.
 static REGISTERS: [(u16, Question, u8); 4] = [
     // VOUT_OV_FAULT, VOUT_UV_FAULT, TON_MAX_FAULT
-    (0x8000, Question::StatusVout, 0b1001_0100),
+    (0x8000, StatusVout, 0b1001_0100),
     // IOUT_OC_FAULT, IOUT_OC_LV_FAULT, IOUT_UC_FAULT, current share fault, POUT_OP_FAULT
-    (0x4000, Question::StatusIout, 0b1101_1010),
+    (0x4000, StatusIout, 0b1101_1010),
     // VIN_OV_FAULT, VIN_UV_FAULT, IIN_OC_FAULT
-    (0x2000, Question::StatusInput, 0b1001_0100),
+    (0x2000, StatusInput, 0b1001_0100),
     // OT_FAULT, UT_FAULT
-    (0x0004, Question::StatusTemperature, 0b1001_0000),
+    (0x0004, StatusTemperature, 0b1001_0000),
 ];
 
 // What it says of one bit of such a register.
@@ -101,9 +90,9 @@ fn said_of(status: u16, register: Question, bit: u8) -> Verdict
     requires { bit < 8 }
 {
     let mut delivery = after_order();
-    delivery.hear(Question::StatusWord, Ok(status));
+    delivery.hear(StatusWord, Ok(status));
     delivery.hear(register, Ok(u16::from(1u8 << bit)));
-    delivery.hear(Question::ReadVout, Ok(0x1000));
+    delivery.hear(ReadVout, Ok(0x1000));
     delivery.verdict(1, Power::On, Reading::Right)
 }
 
@@ -116,12 +105,7 @@ fn each_fault_of_a_status_register_decides(rt: HostRuntime) {
             } else {
                 Verdict::Delivers
             };
-            equal(
-                &rt,
-                &said_of(*status, *register, bit),
-                &wanted,
-                &(register, bit),
-            );
+            compare! { &rt, (register, bit); said_of(*status, *register, bit) => wanted }
         }
     }
 }
@@ -130,10 +114,10 @@ fn each_fault_of_a_status_register_decides(rt: HostRuntime) {
 fn a_fault_that_stood_before_decides_nothing(rt: HostRuntime) {
     let mut delivery = Delivery::new(0, 0, 0, 50, 1);
     delivery.look_before();
-    delivery.hear(Question::Before, Ok(0x8020));
+    delivery.hear(Before, Ok(0x8020));
     delivery.look_after(false, false);
-    delivery.hear(Question::StatusWord, Ok(0x8020));
-    delivery.hear(Question::ReadVout, Ok(0x1000));
+    delivery.hear(StatusWord, Ok(0x8020));
+    delivery.hear(ReadVout, Ok(0x1000));
     let verdict = delivery.verdict(1, Power::On, Reading::Right);
     equal(&rt, &verdict, &Verdict::Delivers, &1);
     is_true(&rt, !delivery.is_new(5), &2);
@@ -143,16 +127,11 @@ fn a_fault_that_stood_before_decides_nothing(rt: HostRuntime) {
 fn a_fault_of_which_nobody_knows_since_when_decides(rt: HostRuntime) {
     let mut delivery = Delivery::new(0, 0, 0, 50, 1);
     delivery.look_before();
-    delivery.hear(Question::Before, Err(0x35));
+    delivery.hear(Before, Err(0x35));
     delivery.look_after(false, false);
-    delivery.hear(Question::StatusWord, Ok(0x0020));
+    delivery.hear(StatusWord, Ok(0x0020));
     let verdict = delivery.verdict(1, Power::On, Reading::NotKnown);
-    equal(
-        &rt,
-        &verdict,
-        &Verdict::NewFault(Question::StatusWord, 5),
-        &1,
-    );
+    compare! { &rt, 1; verdict => Verdict::NewFault(StatusWord, 5) }
 }
 
 // What is looked at, STATUS_WORD after 0000h before the first order, how READ_VOUT stands, which of three rounds it is, what is due then, and
@@ -161,87 +140,33 @@ type RoundRow = (&'static str, bool, u16, Reading, usize, Option<Verdict>);
 
 #[test]
 fn a_rail_fails_at_once_by_two_things_alone(rt: HostRuntime) {
-    let fault = Verdict::NewFault(Question::StatusWord, 5);
+    let fault = Verdict::NewFault(StatusWord, 5);
+    #[rattlefmt::skip]
     let rows: [RoundRow; 12] = [
-        (
-            "above",
-            false,
-            0x0000,
-            Reading::Above,
-            0,
-            Some(Verdict::OutsideLimits),
-        ),
-        (
-            "above, once it was lowered",
-            true,
-            0x0000,
-            Reading::Above,
-            0,
-            None,
-        ),
-        (
-            "above still, once it was lowered",
-            true,
-            0x0000,
-            Reading::Above,
-            2,
-            Some(Verdict::OutsideLimits),
-        ),
-        (
-            "above, with a new fault",
-            false,
-            0x0020,
-            Reading::Above,
-            0,
-            Some(fault),
-        ),
+        ("above", false, 0x0000, Reading::Above, 0, Some(Verdict::OutsideLimits)),
+        ("above, once it was lowered", true, 0x0000, Reading::Above, 0, None),
+        ("above still, once it was lowered", true, 0x0000, Reading::Above, 2,
+            Some(Verdict::OutsideLimits)),
+        ("above, with a new fault", false, 0x0020, Reading::Above, 0, Some(fault)),
         ("below", false, 0x0000, Reading::Outside, 0, None),
         ("far away", false, 0x0000, Reading::Beyond, 0, None),
         ("a new fault", false, 0x0020, Reading::Right, 0, None),
-        (
-            "a new fault still",
-            false,
-            0x0020,
-            Reading::Right,
-            2,
-            Some(fault),
-        ),
-        (
-            "off with a new fault",
-            false,
-            0x0060,
-            Reading::NotKnown,
-            0,
-            Some(Verdict::IsOff),
-        ),
-        (
-            "off with a new fault, lowered",
-            true,
-            0x0060,
-            Reading::NotKnown,
-            0,
-            Some(Verdict::IsOff),
-        ),
+        ("a new fault still", false, 0x0020, Reading::Right, 2, Some(fault)),
+        ("off with a new fault", false, 0x0060, Reading::NotKnown, 0, Some(Verdict::IsOff)),
+        ("off with a new fault, lowered", true, 0x0060, Reading::NotKnown, 0, Some(Verdict::IsOff)),
         ("off", false, 0x0840, Reading::NotKnown, 0, None),
-        (
-            "off still",
-            false,
-            0x0840,
-            Reading::NotKnown,
-            2,
-            Some(Verdict::IsOff),
-        ),
+        ("off still", false, 0x0840, Reading::NotKnown, 2, Some(Verdict::IsOff)),
     ];
     for (name, lowers, status, reading, round, end) in &rows {
         let mut delivery = Delivery::new(0, 0, 0, 50, 3);
         delivery.look_before();
-        delivery.hear(Question::Before, Ok(0));
+        delivery.hear(Before, Ok(0));
         delivery.look_after(false, *lowers);
         for _ in 0..*round {
             delivery.begin_again();
         }
-        delivery.hear(Question::StatusWord, Ok(*status));
-        delivery.hear(Question::ReadVout, Ok(0x1000));
+        delivery.hear(StatusWord, Ok(*status));
+        delivery.hear(ReadVout, Ok(0x1000));
         let due = match end {
             Some(_) => Due::Nothing,
             None => Due::Again,
@@ -280,13 +205,7 @@ fn a_good_answer_alone_says_off(rt: HostRuntime) {
 fn nothing_is_asked_before_an_order_twice(rt: HostRuntime) {
     let mut delivery = Delivery::new(0, 0, 0, 50, 1);
     delivery.look_before();
-    for question in [
-        Question::Before,
-        Question::OvFaultLimit,
-        Question::OvWarnLimit,
-        Question::UvWarnLimit,
-        Question::UvFaultLimit,
-    ] {
+    for question in [Before, OvFaultLimit, OvWarnLimit, UvWarnLimit, UvFaultLimit] {
         let due = delivery.due(2, Power::On, Reading::NotKnown);
         equal(&rt, &due, &Due::Ask(question), &question);
         delivery.hear(question, Ok(0x1000));
@@ -298,13 +217,13 @@ fn nothing_is_asked_before_an_order_twice(rt: HostRuntime) {
 // What a part lacks, by the bits of the caller and of what was found, and what is asked first after an order, and what is said then by a reading
 // that is right.
 static LACKING: [(u8, Due, Verdict); 7] = [
-    (0, Due::Ask(Question::StatusWord), Verdict::NotYet),
-    (2, Due::Ask(Question::StatusWord), Verdict::NotYet), // READ_VOUT, says the caller
-    (8, Due::Ask(Question::StatusWord), Verdict::NotYet), // READ_VOUT, as was found
-    (1, Due::Ask(Question::ReadVout), Verdict::DeliversByVoltage), // STATUS_WORD, says the caller
-    (4, Due::Ask(Question::ReadVout), Verdict::DeliversByVoltage), // STATUS_WORD, as was found
-    (3, Due::Nothing, Verdict::NotKnown(Question::StatusWord, 0)), // both, says the caller
-    (12, Due::Nothing, Verdict::NotKnown(Question::StatusWord, 0)), // both, as was found
+    (0, Due::Ask(StatusWord), Verdict::NotYet),
+    (2, Due::Ask(StatusWord), Verdict::NotYet), // READ_VOUT, says the caller
+    (8, Due::Ask(StatusWord), Verdict::NotYet), // READ_VOUT, as was found
+    (1, Due::Ask(ReadVout), Verdict::DeliversByVoltage), // STATUS_WORD, says the caller
+    (4, Due::Ask(ReadVout), Verdict::DeliversByVoltage), // STATUS_WORD, as was found
+    (3, Due::Nothing, Verdict::NotKnown(StatusWord, 0)), // both, says the caller
+    (12, Due::Nothing, Verdict::NotKnown(StatusWord, 0)), // both, as was found
 ];
 
 // A delivery after an order, of a part that lacks this.
@@ -320,8 +239,8 @@ fn a_part_without_status_word_is_judged_by_read_vout_alone(rt: HostRuntime) {
         let mut delivery = lacking(*lacks);
         let due = delivery.due(2, Power::On, Reading::NotKnown);
         equal(&rt, &due, first, lacks);
-        if *first == Due::Ask(Question::ReadVout) {
-            delivery.hear(Question::ReadVout, Ok(0x1000));
+        if *first == Due::Ask(ReadVout) {
+            delivery.hear(ReadVout, Ok(0x1000));
         }
         let said = delivery.verdict(2, Power::On, Reading::Right);
         equal(&rt, &said, verdict, lacks);
@@ -333,15 +252,15 @@ fn a_reading_alone_decides_or_is_asked_again(rt: HostRuntime) {
     for (reading, verdict) in [
         (Reading::Outside, Verdict::OutsideLimits),
         (Reading::Beyond, Verdict::Beyond),
-        (Reading::NotKnown, Verdict::NotKnown(Question::ReadVout, 0)),
+        (Reading::NotKnown, Verdict::NotKnown(ReadVout, 0)),
     ] {
         let mut delivery = lacking(4);
-        delivery.hear(Question::ReadVout, Ok(0x1000));
+        delivery.hear(ReadVout, Ok(0x1000));
         let due = delivery.due(1, Power::On, reading);
         equal(&rt, &due, &Due::Again, &reading);
         delivery.begin_again();
         delivery.begin_again();
-        delivery.hear(Question::ReadVout, Ok(0x1000));
+        delivery.hear(ReadVout, Ok(0x1000));
         let said = delivery.verdict(1, Power::On, reading);
         equal(&rt, &said, &verdict, &reading);
         let said = delivery.verdict(1, Power::Off, reading);
@@ -357,7 +276,7 @@ fn an_output_that_was_turned_off_isn_t_known_to_be_off_without_status_word(rt: H
         let due = delivery.due(2, Power::Off, Reading::NotKnown);
         equal(&rt, &due, &Due::Nothing, &lacks);
         let said = delivery.verdict(2, Power::Off, Reading::NotKnown);
-        let wanted = Verdict::NotKnown(Question::StatusWord, 0);
+        let wanted = Verdict::NotKnown(StatusWord, 0);
         equal(&rt, &said, &wanted, &lacks);
     }
 }

@@ -54,10 +54,7 @@ fn with_count(count: u8) -> Result<Converter, ConfigFault> {
 
 fn with_operation(operation: u16) -> Result<Converter, ConfigFault> {
     let mut starts = [OUTPUT; 8];
-    starts[1] = OutputStart {
-        operation,
-        ..OUTPUT
-    };
+    starts[1] = with! { OutputStart, OUTPUT; operation };
     made(Config { starts, ..BASE })
 }
 
@@ -103,12 +100,7 @@ fn status(rt: &impl Abort, converter: &Converter, output: u8) -> (u16, u8) {
         return (0, 0);
     }
     let whole = converter.status_word(output);
-    equal(
-        rt,
-        &u16::from(converter.status_byte(output)),
-        &(whole % 256),
-        &1,
-    );
+    compare! { rt, 1; u16::from(converter.status_byte(output)) => (whole % 256) }
     (whole, converter.status_vout(output))
 }
 
@@ -122,16 +114,13 @@ fn commanded(converter: &Converter, output: u8) -> (i128, i128) {
 }
 
 // Writes that a converter of its own takes, then VOUT_COMMAND of both outputs and PAGE.
+#[rattlefmt::skip]
 static WRITES: [(&[&str], [u16; 2], u8); 5] = [
     (&["B0 05 04 00 21 CD 34 5A"], [0x34CD, 0x1000], 0),
     (&["B0 05 04 01 21 CD 34 4C"], [0x1000, 0x34CD], 0),
     (&["B0 21 CD 34 38"], [0x34CD, 0x1000], 0),
     (&["B0 00 01 ED", "B0 21 CD 34 38"], [0x1000, 0x34CD], 1),
-    (
-        &["B0 00 01 ED", "B0 05 04 00 21 CD 34 5A"],
-        [0x34CD, 0x1000],
-        1,
-    ),
+    (&["B0 00 01 ED", "B0 05 04 00 21 CD 34 5A"], [0x34CD, 0x1000], 1),
 ];
 
 // Each cell has its start word, and VOUT_COMMAND of both outputs these.
@@ -225,38 +214,19 @@ fn shows(rt: &impl Abort, operation: u16) -> Result<[(u16, u8); 2], ConfigFault>
 #[test]
 fn an_output_that_is_off_shows_it(rt: HostRuntime) -> Result<(), Fail> {
     for operation in [0x80, 0xA8, 0x94] {
-        equal(
-            &rt,
-            &shows(&rt, operation)?,
-            &[(0x0000, 0x00), (0x0000, 0x00)],
-            &1,
-        );
+        compare! { &rt, 1; shows(&rt, operation)? => [(0x0000, 0x00), (0x0000, 0x00)] }
     }
     for operation in [0x00, 0x28, 0x40] {
-        equal(
-            &rt,
-            &shows(&rt, operation)?,
-            &[(0x0000, 0x00), (0x0840, 0x00)],
-            &2,
-        );
+        compare! { &rt, 2; shows(&rt, operation)? => [(0x0000, 0x00), (0x0840, 0x00)] }
     }
     Ok(())
 }
 
 // DIRECT with a slope of -1: the greater word is the lower value.
 fn falling() -> Result<Converter, ConfigFault> {
-    let start = OutputStart {
-        mode: 0x40,
-        command: 0x03E8,
-        max: 0x0BB8,
-        ..OUTPUT
-    };
-    made(Config {
-        count: 1,
-        starts: [start; 8],
-        coefficients: Coefficients { m: -1, b: 5, r: 3 },
-        ..BASE
-    })
+    let start = with! { OutputStart, OUTPUT; mode: 0x40, command: 0x03E8, max: 0x0BB8 };
+    made(with! { Config, BASE;
+        count: 1, starts: [start; 8], coefficients: Coefficients { m: -1, b: 5, r: 3 } })
 }
 
 #[test]

@@ -5,14 +5,14 @@ mod example;
 mod rails;
 mod tries;
 
-use crate::checks::equal;
 use crate::{BASE, FIRST};
-use pm_device::Converter;
-use pm_driver::{Bus, DeadBus, Fault, Retrying, SimulatedBus, carry_out, driver_over};
+use pm_device::{Config, Converter};
+use pm_driver::{Bus, DeadBus, Driver, Fault, Retrying, SimulatedBus, carry_out, driver_over};
 use pm_host::{Host, HostFault, JobEnd, Standing};
 use pm_limits::{Guard, LimitFault, OutputLimits};
 use pm_table::{Cell, Reg};
 use pm_world::{Arrival, Back};
+use std::process::Abort;
 
 // OPERATION of the first output.
 static SWITCH: Cell = Cell::Out(0, Reg::Operation);
@@ -32,27 +32,17 @@ fn whole() -> Fault {
 
 // A write that is lost, and falsely acknowledged.
 fn lost() -> Fault {
-    Fault {
-        heard: None,
-        ..whole()
-    }
+    with! { Fault, whole(); heard: None }
 }
 
 // A write that is heard twice, and not acknowledged.
 fn repeated() -> Fault {
-    Fault {
-        repeated: Some(Arrival::Whole),
-        acked: false,
-        ..whole()
-    }
+    with! { Fault, whole(); repeated: Some(Arrival::Whole), acked: false }
 }
 
 // A request whose answer is cut.
 fn cut() -> Fault {
-    Fault {
-        back: Back::Cut(3),
-        ..whole()
-    }
+    with! { Fault, whole(); back: Back::Cut(3) }
 }
 
 // What the host says of VOUT_COMMAND of the first output.
@@ -69,6 +59,19 @@ fn held(device: &Converter) -> u16 {
         return 0;
     }
     device.word(FIRST)
+}
+
+// A driver over a new converter, by a plan of faults.
+fn begun<'a>(
+    rt: &impl Abort,
+    config: Config,
+    passes: u8,
+    plan: &'a [Fault],
+) -> Driver<SimulatedBus<'a>> {
+    match driver_over(config, passes, plan) {
+        Some(driver) => driver,
+        None => panic!(rt; "refused"),
+    }
 }
 
 // How an order of 34CDh ends, with two passes, what the host says of the cell, and the word that the converter holds.
@@ -94,172 +97,98 @@ fn carried_out<B: Bus>(bus: &mut B, passes: u8) -> Option<(Option<JobEnd>, Stand
 #[test]
 fn an_order_ends_with_what_the_converter_holds(rt: HostRuntime) {
     let done = Some((Ok(JobEnd::Done), Standing::Confirmed(0x34CD), 0x34CD));
-    equal(&rt, &ordered(&[]), &done, &1);
-    equal(&rt, &ordered(&[lost()]), &done, &2);
-    equal(&rt, &ordered(&[repeated(), cut()]), &done, &3);
-    equal(
-        &rt,
-        &ordered(&[lost(), whole(), lost()]),
-        &Some((
-            Ok(JobEnd::Differs(0x1000)),
-            Standing::Confirmed(0x1000),
-            0x1000,
-        )),
-        &4,
-    );
-    equal(
-        &rt,
-        &ordered(&[whole(), cut(), whole(), cut()]),
-        &Some((Ok(JobEnd::Unknown), Standing::Unknown, 0x34CD)),
-        &5,
-    );
+    compare! { &rt;
+        1, ordered(&[]) => done;
+        2, ordered(&[lost()]) => done;
+        3, ordered(&[repeated(), cut()]) => done;
+        4, ordered(&[lost(), whole(), lost()]) =>
+            Some((Ok(JobEnd::Differs(0x1000)), Standing::Confirmed(0x1000), 0x1000));
+        5, ordered(&[whole(), cut(), whole(), cut()]) =>
+            Some((Ok(JobEnd::Unknown), Standing::Unknown, 0x34CD));
+    }
 }
 
 #[test]
 fn each_job_has_its_end(rt: HostRuntime) {
-    match driver_over(BASE, 2, &[]) {
-        Some(mut driver) => {
-            equal(&rt, &driver.check(FIRST), &Ok(JobEnd::Done), &1);
-            equal(&rt, &said(driver.host()), &Standing::Confirmed(0x1000), &1);
-            equal(
-                &rt,
-                &driver.order_micro(FIRST, 3_300_000),
-                &Err(LimitFault::Host(HostFault::FormatUnknown)),
-                &2,
-            );
-            equal(&rt, &driver.learn(0), &Ok(JobEnd::Learned), &3);
-            equal(
-                &rt,
-                &driver.order_micro(FIRST, 3_300_000),
-                &Ok(JobEnd::Done),
-                &4,
-            );
-            equal(&rt, &held(&driver.bus().device), &0x34CD, &4);
-            equal(&rt, &driver.store(), &Ok(JobEnd::Done), &5);
-            equal(&rt, &driver.restore(), &Ok(JobEnd::Done), &6);
-            equal(&rt, &said(driver.host()), &Standing::Unknown, &6);
-            equal(
-                &rt,
-                &driver.clear(2),
-                &Err(LimitFault::Host(HostFault::UnknownOutput)),
-                &7,
-            );
-            equal(&rt, &driver.clear(1), &Ok(JobEnd::Done), &8);
-            driver.restart();
-            equal(
-                &rt,
-                &driver.order_micro(FIRST, 3_300_000),
-                &Err(LimitFault::Host(HostFault::FormatUnknown)),
-                &9,
-            );
-        }
-        None => panic!(rt; "refused"),
+    let mut driver = begun(&rt, BASE, 2, &[]);
+    compare! { &rt;
+        1, driver.check(FIRST) => Ok(JobEnd::Done);
+        1, said(driver.host()) => Standing::Confirmed(0x1000);
+        2, driver.order_micro(FIRST, 3_300_000) =>
+            Err(LimitFault::Host(HostFault::FormatUnknown));
+        3, driver.learn(0) => Ok(JobEnd::Learned);
+        4, driver.order_micro(FIRST, 3_300_000) => Ok(JobEnd::Done);
+        4, held(&driver.bus().device) => 0x34CD;
+        5, driver.store() => Ok(JobEnd::Done);
+        6, driver.restore() => Ok(JobEnd::Done);
+        6, said(driver.host()) => Standing::Unknown;
+        7, driver.clear(2) => Err(LimitFault::Host(HostFault::UnknownOutput));
+        8, driver.clear(1) => Ok(JobEnd::Done);
+    }
+    driver.restart();
+    compare! { &rt, 9;
+        driver.order_micro(FIRST, 3_300_000) =>
+            Err(LimitFault::Host(HostFault::FormatUnknown));
     }
 }
 
 // Limits refuse before a frame is sent, and narrower ones more; turning off is let through.
 #[test]
 fn limits_refuse_before_a_frame_is_sent(rt: HostRuntime) {
-    match driver_over(BASE, 2, &[whole(), whole(), whole(), whole(), whole()]) {
-        Some(mut driver) => {
-            equal(&rt, &driver.narrow(0, 900_000, 3_465_000), &Ok(()), &1);
-            equal(
-                &rt,
-                &driver.order(FIRST, 0x34CD),
-                &Err(LimitFault::FormatUnknown),
-                &2,
-            );
-            equal(&rt, &driver.learn(0), &Ok(JobEnd::Learned), &3);
-            equal(
-                &rt,
-                &driver.order_micro(FIRST, 12_000_000),
-                &Err(LimitFault::AboveLimit),
-                &4,
-            );
-            equal(
-                &rt,
-                &driver.order(FIRST, 0x0800),
-                &Err(LimitFault::BelowLimit),
-                &5,
-            );
-            equal(
-                &rt,
-                &driver.order(SWITCH, 0x80),
-                &Err(LimitFault::NotKnownWithin),
-                &6,
-            );
-            equal(&rt, &driver.bus().next, &1, &7);
-            equal(&rt, &driver.order(FIRST, 0x34CD), &Ok(JobEnd::Done), &8);
-            equal(&rt, &held(&driver.bus().device), &0x34CD, &8);
-            equal(
-                &rt,
-                &driver.narrow(0, 900_000, 3_500_000),
-                &Err(LimitFault::LimitsWidened),
-                &9,
-            );
-            equal(&rt, &driver.narrow(0, 900_000, 3_000_000), &Ok(()), &10);
-            equal(
-                &rt,
-                &driver.order(FIRST, 0x34CD),
-                &Err(LimitFault::AboveLimit),
-                &11,
-            );
-            equal(&rt, &driver.order(SWITCH, 0x00), &Ok(JobEnd::Done), &12);
-            equal(&rt, &driver.guard().limits(1).is_limited(), &false, &13);
-        }
-        None => panic!(rt; "refused"),
+    let plan = [whole(), whole(), whole(), whole(), whole()];
+    let mut driver = begun(&rt, BASE, 2, &plan);
+    compare! { &rt;
+        1, driver.narrow(0, 900_000, 3_465_000) => Ok(());
+        2, driver.order(FIRST, 0x34CD) => Err(LimitFault::FormatUnknown);
+        3, driver.learn(0) => Ok(JobEnd::Learned);
+        4, driver.order_micro(FIRST, 12_000_000) => Err(LimitFault::AboveLimit);
+        5, driver.order(FIRST, 0x0800) => Err(LimitFault::BelowLimit);
+        6, driver.order(SWITCH, 0x80) => Err(LimitFault::NotKnownWithin);
+        7, driver.bus().next => 1;
+        8, driver.order(FIRST, 0x34CD) => Ok(JobEnd::Done);
+        8, held(&driver.bus().device) => 0x34CD;
+        9, driver.narrow(0, 900_000, 3_500_000) => Err(LimitFault::LimitsWidened);
+        10, driver.narrow(0, 900_000, 3_000_000) => Ok(());
+        11, driver.order(FIRST, 0x34CD) => Err(LimitFault::AboveLimit);
+        12, driver.order(SWITCH, 0x00) => Ok(JobEnd::Done);
+        13, driver.guard().limits(1).is_limited() => false;
     }
 }
 
 #[test]
 fn buses_of_other_kinds_carry_a_job_out(rt: HostRuntime) {
-    match Converter::new(BASE) {
-        Ok(device) => {
-            let mut bus = DeadBus { device };
-            let end = Some((Some(JobEnd::Unknown), Standing::Unknown));
-            equal(&rt, &carried_out(&mut bus, 2), &end, &1);
-            equal(&rt, &held(&bus.device), &0x1000, &1);
-        }
-        Err(fault) => panic!(rt; "{fault}"),
-    }
-    match Converter::new(BASE) {
-        Ok(device) => {
-            // The first write is lost, and not acknowledged; one pass is enough.
-            let plan = [Fault {
-                acked: false,
-                ..lost()
-            }];
-            let mut bus = Retrying {
-                bus: SimulatedBus {
-                    device,
-                    plan: &plan,
-                    next: 0,
-                },
-            };
-            let end = Some((Some(JobEnd::Done), Standing::Confirmed(0x34CD)));
-            equal(&rt, &carried_out(&mut bus, 1), &end, &2);
-            equal(&rt, &held(&bus.bus.device), &0x34CD, &2);
-        }
-        Err(fault) => panic!(rt; "{fault}"),
+    let (Ok(device), Ok(other)) = (Converter::new(BASE), Converter::new(BASE)) else {
+        panic!(rt; "refused");
+    };
+    let mut dead = DeadBus { device };
+    // The first write is lost, and not acknowledged; one pass is enough.
+    let plan = [with! { Fault, lost(); acked: false }];
+    let mut retrying = Retrying {
+        bus: SimulatedBus {
+            device: other,
+            plan: &plan,
+            next: 0,
+        },
+    };
+    compare! { &rt;
+        1, carried_out(&mut dead, 2) => Some((Some(JobEnd::Unknown), Standing::Unknown));
+        1, held(&dead.device) => 0x1000;
+        2, carried_out(&mut retrying, 1) => Some((Some(JobEnd::Done), Standing::Confirmed(0x34CD)));
+        2, held(&retrying.bus.device) => 0x34CD;
     }
 }
 
 #[test]
 fn an_idle_host_sends_nothing(rt: HostRuntime) {
-    match (
-        Converter::new(BASE),
-        Guard::new(BASE.addr, BASE.count, 2, [OutputLimits::Unknown; 8]),
-    ) {
-        (Ok(device), Ok(mut guard)) => {
-            let plan = [whole()];
-            let mut bus = SimulatedBus {
-                device,
-                plan: &plan,
-                next: 0,
-            };
-            equal(&rt, &carry_out(&mut guard, &mut bus), &None, &1);
-            equal(&rt, &bus.next, &0, &2);
-        }
-        _ => panic!(rt; "refused"),
-    }
+    let guard = Guard::new(BASE.addr, BASE.count, 2, [OutputLimits::Unknown; 8]);
+    let (Ok(device), Ok(mut guard)) = (Converter::new(BASE), guard) else {
+        panic!(rt; "refused");
+    };
+    let plan = [whole()];
+    let mut bus = SimulatedBus {
+        device,
+        plan: &plan,
+        next: 0,
+    };
+    compare! { &rt; 1, carry_out(&mut guard, &mut bus) => None; 2, bus.next => 0 }
 }

@@ -16,14 +16,6 @@ static FRAMES: [(FrameFault, &str); 8] = [
     (FrameFault::Nested(4), "F8 Nested 4"),
 ];
 
-#[test]
-fn each_fault_shows_its_words_and_its_place(rt: HostRuntime) -> Result<(), AllocError> {
-    for (row, (fault, wanted)) in FRAMES.iter().enumerate() {
-        prints(&rt, row, fault, wanted)?;
-    }
-    Ok(())
-}
-
 static TABLES: [(TableFault, &str); 4] = [
     (TableFault::VidMode, "C1 VidMode"),
     (TableFault::HalfMode, "C2 HalfMode"),
@@ -32,7 +24,10 @@ static TABLES: [(TableFault, &str); 4] = [
 ];
 
 #[test]
-fn each_fault_shows_its_words(rt: HostRuntime) -> Result<(), AllocError> {
+fn each_fault_shows_its_words_and_its_place(rt: HostRuntime) -> Result<(), AllocError> {
+    for (row, (fault, wanted)) in FRAMES.iter().enumerate() {
+        prints(&rt, row, fault, wanted)?;
+    }
     for (row, (fault, wanted)) in TABLES.iter().enumerate() {
         prints(&rt, row, fault, wanted)?;
     }

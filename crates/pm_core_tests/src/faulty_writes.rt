@@ -5,180 +5,69 @@
 ghost use Rattle.pm_table.specs.Address.{IsAddress};
 
 use crate::checks::agrees;
+use crate::framing::Ends::{Bare, OtherPec, Pec};
 use crate::framing::{ADDRESSES, Ends, fails, framed, request_fault, write_fault};
 use pm_frame::FrameFault;
+use pm_frame::FrameFault::{
+    Long, Nested, NotOurs, Short, UnknownCode, WrongCount, WrongDirection, WrongPec,
+};
 use pm_table::address_ok;
 use std::alloc::{AllocError, Global};
 use std::process::Abort;
 
+#[rattlefmt::skip]
 static FAULTY_WRITES: [(&[u8], Ends, FrameFault); 64] = [
     // lengths of a plain code that is written
-    (&[], Ends::Bare, FrameFault::Short(1)),
-    (&[0x03], Ends::Bare, FrameFault::Short(2)),
-    (&[0x21, 0xCD, 0x34], Ends::Bare, FrameFault::Short(4)),
-    (&[0x21, 0xCD], Ends::Pec, FrameFault::Short(4)),
-    (&[0x10], Ends::Pec, FrameFault::Short(3)),
-    (&[0x03, 0x46], Ends::Pec, FrameFault::Long(3)),
-    (&[0x15], Ends::Bare, FrameFault::Short(2)),
-    (&[0x16, 0x46], Ends::Pec, FrameFault::Long(3)),
-    (&[0x10, 0x80, 0x34], Ends::Pec, FrameFault::Long(4)),
-    (&[0x21, 0xCD, 0x34, 0x00], Ends::Pec, FrameFault::Long(5)),
-    (
-        &[0x21, 0xCD, 0x34, 0x00],
-        Ends::OtherPec,
-        FrameFault::Long(5),
-    ),
+    (&[], Bare, Short(1)), (&[0x03], Bare, Short(2)), (&[0x21, 0xCD, 0x34], Bare, Short(4)),
+    (&[0x21, 0xCD], Pec, Short(4)), (&[0x10], Pec, Short(3)), (&[0x03, 0x46], Pec, Long(3)),
+    (&[0x15], Bare, Short(2)), (&[0x16, 0x46], Pec, Long(3)), (&[0x10, 0x80, 0x34], Pec, Long(4)),
+    (&[0x21, 0xCD, 0x34, 0x00], Pec, Long(5)), (&[0x21, 0xCD, 0x34, 0x00], OtherPec, Long(5)),
     // the length of PAGE_PLUS_WRITE before its count, its PEC and its code
-    (&[0x05], Ends::Bare, FrameFault::Short(2)),
-    (&[0x05, 0x02], Ends::Bare, FrameFault::Short(3)),
-    (
-        &[0x05, 0x04, 0x00, 0x21, 0xCD, 0x34],
-        Ends::Bare,
-        FrameFault::Short(7),
-    ),
-    (
-        &[0x05, 0x04, 0x00, 0x21, 0xCD],
-        Ends::Pec,
-        FrameFault::Short(7),
-    ),
-    (&[0x05, 0x03, 0x00, 0x21], Ends::Bare, FrameFault::Short(5)),
-    (&[0x05, 0x01, 0x00], Ends::Bare, FrameFault::Short(4)),
-    (&[0x05, 0x02, 0x00, 0x06], Ends::Bare, FrameFault::Short(5)),
-    (&[0x05, 0x02, 0x00, 0x99], Ends::Bare, FrameFault::Short(5)),
-    (&[0x05, 0x02, 0x00, 0x78], Ends::Bare, FrameFault::Short(5)),
-    (
-        &[0x05, 0x04, 0x00, 0x21, 0xCD, 0x34, 0x00],
-        Ends::Pec,
-        FrameFault::Long(8),
-    ),
-    (
-        &[0x05, 0x03, 0x00, 0x21, 0xCD, 0x34],
-        Ends::Pec,
-        FrameFault::Long(7),
-    ),
-    (&[0x05, 0x00, 0x00, 0x00], Ends::Pec, FrameFault::Long(4)),
-    (
-        &[0x05, 0x02, 0x00, 0x06, 0x00],
-        Ends::Pec,
-        FrameFault::Long(6),
-    ),
-    (
-        &[0x05, 0x02, 0x00, 0x99, 0x00],
-        Ends::Pec,
-        FrameFault::Long(6),
-    ),
-    (
-        &[0x05, 0x02, 0x00, 0x78, 0x00],
-        Ends::Pec,
-        FrameFault::Long(6),
-    ),
+    (&[0x05], Bare, Short(2)), (&[0x05, 0x02], Bare, Short(3)),
+    (&[0x05, 0x04, 0x00, 0x21, 0xCD, 0x34], Bare, Short(7)),
+    (&[0x05, 0x04, 0x00, 0x21, 0xCD], Pec, Short(7)),
+    (&[0x05, 0x03, 0x00, 0x21], Bare, Short(5)), (&[0x05, 0x01, 0x00], Bare, Short(4)),
+    (&[0x05, 0x02, 0x00, 0x06], Bare, Short(5)), (&[0x05, 0x02, 0x00, 0x99], Bare, Short(5)),
+    (&[0x05, 0x02, 0x00, 0x78], Bare, Short(5)),
+    (&[0x05, 0x04, 0x00, 0x21, 0xCD, 0x34, 0x00], Pec, Long(8)),
+    (&[0x05, 0x03, 0x00, 0x21, 0xCD, 0x34], Pec, Long(7)),
+    (&[0x05, 0x00, 0x00, 0x00], Pec, Long(4)),
+    (&[0x05, 0x02, 0x00, 0x06, 0x00], Pec, Long(6)),
+    (&[0x05, 0x02, 0x00, 0x99, 0x00], Pec, Long(6)),
+    (&[0x05, 0x02, 0x00, 0x78, 0x00], Pec, Long(6)),
     // its count before its PEC
-    (
-        &[0x05, 0x03, 0x00, 0x21, 0xCD],
-        Ends::Pec,
-        FrameFault::WrongCount(2),
-    ),
-    (
-        &[0x05, 0x03, 0x00, 0x21, 0xCD],
-        Ends::OtherPec,
-        FrameFault::WrongCount(2),
-    ),
-    (
-        &[0x05, 0x05, 0x00, 0x21, 0xCD, 0x34, 0x00],
-        Ends::Pec,
-        FrameFault::WrongCount(2),
-    ),
-    (
-        &[0x05, 0x03, 0x00, 0x03, 0x00],
-        Ends::Pec,
-        FrameFault::WrongCount(2),
-    ),
-    (&[0x05, 0x01, 0x00], Ends::Pec, FrameFault::WrongCount(2)),
-    (
-        &[0x05, 0x01, 0x00],
-        Ends::OtherPec,
-        FrameFault::WrongCount(2),
-    ),
-    (&[0x05, 0x00], Ends::Pec, FrameFault::WrongCount(2)),
+    (&[0x05, 0x03, 0x00, 0x21, 0xCD], Pec, WrongCount(2)),
+    (&[0x05, 0x03, 0x00, 0x21, 0xCD], OtherPec, WrongCount(2)),
+    (&[0x05, 0x05, 0x00, 0x21, 0xCD, 0x34, 0x00], Pec, WrongCount(2)),
+    (&[0x05, 0x03, 0x00, 0x03, 0x00], Pec, WrongCount(2)),
+    (&[0x05, 0x01, 0x00], Pec, WrongCount(2)), (&[0x05, 0x01, 0x00], OtherPec, WrongCount(2)),
+    (&[0x05, 0x00], Pec, WrongCount(2)),
     // any other code before the PEC
-    (&[0x06], Ends::Bare, FrameFault::Short(2)),
-    (&[0x20], Ends::Bare, FrameFault::Short(2)),
-    (&[0x99], Ends::Bare, FrameFault::Short(2)),
+    (&[0x06], Bare, Short(2)), (&[0x20], Bare, Short(2)), (&[0x99], Bare, Short(2)),
     // the PEC before the code
-    (&[0x03], Ends::OtherPec, FrameFault::WrongPec(2)),
-    (&[0x10, 0x80], Ends::OtherPec, FrameFault::WrongPec(3)),
-    (
-        &[0x05, 0x04, 0x00, 0x21, 0xCD, 0x34],
-        Ends::OtherPec,
-        FrameFault::WrongPec(7),
-    ),
-    (&[0x78], Ends::OtherPec, FrameFault::WrongPec(2)),
-    (&[0x99], Ends::OtherPec, FrameFault::WrongPec(2)),
-    (
-        &[0x05, 0x02, 0x00, 0x06],
-        Ends::OtherPec,
-        FrameFault::WrongPec(5),
-    ),
-    (
-        &[0x05, 0x02, 0x00, 0x99],
-        Ends::OtherPec,
-        FrameFault::WrongPec(5),
-    ),
-    (
-        &[0x05, 0x02, 0x00, 0x78],
-        Ends::OtherPec,
-        FrameFault::WrongPec(5),
-    ),
+    (&[0x03], OtherPec, WrongPec(2)), (&[0x10, 0x80], OtherPec, WrongPec(3)),
+    (&[0x05, 0x04, 0x00, 0x21, 0xCD, 0x34], OtherPec, WrongPec(7)),
+    (&[0x78], OtherPec, WrongPec(2)), (&[0x99], OtherPec, WrongPec(2)),
+    (&[0x05, 0x02, 0x00, 0x06], OtherPec, WrongPec(5)),
+    (&[0x05, 0x02, 0x00, 0x99], OtherPec, WrongPec(5)),
+    (&[0x05, 0x02, 0x00, 0x78], OtherPec, WrongPec(5)),
     // the code of a plain packet
-    (&[0x78], Ends::Pec, FrameFault::WrongDirection(1)),
-    (&[0x06], Ends::Pec, FrameFault::WrongDirection(1)),
-    (&[0x30], Ends::Pec, FrameFault::WrongDirection(1)),
-    (&[0x20, 0x14], Ends::Pec, FrameFault::WrongDirection(1)),
-    (&[0x79, 0x08], Ends::Pec, FrameFault::WrongDirection(1)),
-    (&[0x99], Ends::Pec, FrameFault::UnknownCode(1)),
-    (&[0x11], Ends::Pec, FrameFault::UnknownCode(1)),
-    (&[0x17], Ends::Pec, FrameFault::UnknownCode(1)),
-    (&[0x99, 0x00, 0x00], Ends::Pec, FrameFault::UnknownCode(1)),
+    (&[0x78], Pec, WrongDirection(1)), (&[0x06], Pec, WrongDirection(1)),
+    (&[0x30], Pec, WrongDirection(1)), (&[0x20, 0x14], Pec, WrongDirection(1)),
+    (&[0x79, 0x08], Pec, WrongDirection(1)), (&[0x99], Pec, UnknownCode(1)),
+    (&[0x11], Pec, UnknownCode(1)), (&[0x17], Pec, UnknownCode(1)),
+    (&[0x99, 0x00, 0x00], Pec, UnknownCode(1)),
     // the carried code, whatever the count, if it is not carried, known or written
-    (
-        &[0x05, 0x02, 0x00, 0x78],
-        Ends::Pec,
-        FrameFault::WrongDirection(4),
-    ),
-    (
-        &[0x05, 0x03, 0x00, 0x20, 0x14],
-        Ends::Pec,
-        FrameFault::WrongDirection(4),
-    ),
-    (
-        &[0x05, 0x04, 0x00, 0x20, 0x14, 0x00],
-        Ends::Pec,
-        FrameFault::WrongDirection(4),
-    ),
-    (
-        &[0x05, 0x02, 0x00, 0x99],
-        Ends::Pec,
-        FrameFault::UnknownCode(4),
-    ),
-    (
-        &[0x05, 0x04, 0x00, 0x99, 0x00, 0x00],
-        Ends::Pec,
-        FrameFault::UnknownCode(4),
-    ),
-    (&[0x05, 0x02, 0x00, 0x06], Ends::Pec, FrameFault::Nested(4)),
-    (&[0x05, 0x02, 0x00, 0x05], Ends::Pec, FrameFault::Nested(4)),
-    (
-        &[0x05, 0x03, 0x00, 0x05, 0x00],
-        Ends::Pec,
-        FrameFault::Nested(4),
-    ),
-    (&[0x05, 0x02, 0x00, 0x30], Ends::Pec, FrameFault::Nested(4)),
-    (
-        &[0x05, 0x03, 0x00, 0x00, 0x01],
-        Ends::Pec,
-        FrameFault::Nested(4),
-    ),
-    (&[0x05, 0x02, 0x00, 0x00], Ends::Pec, FrameFault::Nested(4)),
+    (&[0x05, 0x02, 0x00, 0x78], Pec, WrongDirection(4)),
+    (&[0x05, 0x03, 0x00, 0x20, 0x14], Pec, WrongDirection(4)),
+    (&[0x05, 0x04, 0x00, 0x20, 0x14, 0x00], Pec, WrongDirection(4)),
+    (&[0x05, 0x02, 0x00, 0x99], Pec, UnknownCode(4)),
+    (&[0x05, 0x04, 0x00, 0x99, 0x00, 0x00], Pec, UnknownCode(4)),
+    (&[0x05, 0x02, 0x00, 0x06], Pec, Nested(4)), (&[0x05, 0x02, 0x00, 0x05], Pec, Nested(4)),
+    (&[0x05, 0x03, 0x00, 0x05, 0x00], Pec, Nested(4)),
+    (&[0x05, 0x02, 0x00, 0x30], Pec, Nested(4)),
+    (&[0x05, 0x03, 0x00, 0x00, 0x01], Pec, Nested(4)),
+    (&[0x05, 0x02, 0x00, 0x00], Pec, Nested(4)),
 ];
 
 // The fault of a write whose first byte is this one.
@@ -199,13 +88,13 @@ fn write_fails(rt: &impl Abort, addr: u8, row: usize, bytes: &[u8], ends: Ends, 
         rt,
         row,
         write_from(rt, addr, ours + 1, bytes, ends),
-        FrameFault::NotOurs,
+        NotOurs,
     );
     fails(
         rt,
         row,
         write_from(rt, addr, addr ^ 1, bytes, ends),
-        FrameFault::NotOurs,
+        NotOurs,
     );
 }
 
@@ -215,12 +104,7 @@ fn writes_fail(rt: &impl Abort, addr: u8) {
     for (row, (bytes, ends, fault)) in FAULTY_WRITES.iter().enumerate() {
         write_fails(rt, addr, row, bytes, *ends, *fault);
     }
-    fails(
-        rt,
-        FAULTY_WRITES.len(),
-        write_fault(addr, &[]),
-        FrameFault::NotOurs,
-    );
+    fails(rt, FAULTY_WRITES.len(), write_fault(addr, &[]), NotOurs);
 }
 
 #[test]
@@ -242,7 +126,7 @@ static COUNTS_BEFORE_CODES: [&[u8]; 3] = [
 fn a_count_below_two_comes_before_the_code_at_its_place(rt: HostRuntime) {
     for (row, bytes) in COUNTS_BEFORE_CODES.iter().enumerate() {
         let found = write_fault(0x58, bytes);
-        fails(&rt, row, found, FrameFault::WrongCount(2));
+        fails(&rt, row, found, WrongCount(2));
     }
 }
 
@@ -256,9 +140,9 @@ fn lengthened(alloc: Global, front: &[u8], byte: u8, count: usize) -> Result<Vec
 
 // The zeros after the first five bytes, and the fault.
 static LENGTHS: [(usize, FrameFault); 3] = [
-    (253, FrameFault::Short(258)),
-    (254, FrameFault::WrongCount(2)),
-    (255, FrameFault::Long(259)),
+    (253, Short(258)),
+    (254, WrongCount(2)),
+    (255, Long(259)),
 ];
 
 #[test]
@@ -272,24 +156,13 @@ fn the_length_of_a_frame_is_that_of_its_count_up_to_255(rt: HostRuntime) -> Resu
 }
 
 // The first two bytes, and the faults as a write and as a request.
+#[rattlefmt::skip]
 static MILLIONS: [(&[u8], FrameFault, FrameFault); 5] = [
-    (&[0x05, 0x05], FrameFault::NotOurs, FrameFault::NotOurs),
-    (
-        &[0xB0, 0x05],
-        FrameFault::Long(9),
-        FrameFault::WrongDirection(1),
-    ),
-    (&[0xB0, 0x21], FrameFault::Long(5), FrameFault::Long(2)),
-    (
-        &[0xB0, 0x06],
-        FrameFault::WrongPec(999_999),
-        FrameFault::Long(5),
-    ),
-    (
-        &[0xB0, 0x99],
-        FrameFault::WrongPec(999_999),
-        FrameFault::UnknownCode(1),
-    ),
+    (&[0x05, 0x05], NotOurs, NotOurs),
+    (&[0xB0, 0x05], Long(9), WrongDirection(1)),
+    (&[0xB0, 0x21], Long(5), Long(2)),
+    (&[0xB0, 0x06], WrongPec(999_999), Long(5)),
+    (&[0xB0, 0x99], WrongPec(999_999), UnknownCode(1)),
 ];
 
 #[test]

@@ -34,18 +34,10 @@ pub const FIRST: Cell = Cell::Out(0, Reg::VoutCommand);
 pub const SECOND: Cell = Cell::Out(1, Reg::VoutCommand);
 
 /// Every cell of two outputs.
+#[rattlefmt::skip]
 pub const CELLS: [Cell; 13] = [
-    Cell::Out(0, Reg::Operation),
-    FIRST,
-    Cell::Out(0, Reg::VoutMax),
-    Cell::Out(0, Reg::MarginHigh),
-    Cell::Out(0, Reg::MarginLow),
-    Cell::Out(0, Reg::VoutMin),
-    Cell::Out(1, Reg::Operation),
-    SECOND,
-    Cell::Out(1, Reg::VoutMax),
-    Cell::Out(1, Reg::MarginHigh),
-    Cell::Out(1, Reg::MarginLow),
-    Cell::Out(1, Reg::VoutMin),
-    Cell::Protect,
+    Cell::Out(0, Reg::Operation), FIRST, Cell::Out(0, Reg::VoutMax), Cell::Out(0, Reg::MarginHigh),
+    Cell::Out(0, Reg::MarginLow), Cell::Out(0, Reg::VoutMin), Cell::Out(1, Reg::Operation), SECOND,
+    Cell::Out(1, Reg::VoutMax), Cell::Out(1, Reg::MarginHigh), Cell::Out(1, Reg::MarginLow),
+    Cell::Out(1, Reg::VoutMin), Cell::Protect,
 ];

@@ -199,15 +199,10 @@ static CHECKED_AND_WRITTEN: [(Call<'static>, Answer); 4] = [
 ];
 
 // A word that no pass reads back.
+#[rattlefmt::skip]
 static IN_VAIN: [(Call<'static>, Answer); 5] = [
-    (Order(FIRST, 0x2000), BEGUN),
-    (Finish(true), NEXT),
-    (Got(&[]), NEXT),
-    (Finish(true), NEXT),
-    (
-        Answered(READ_FIRST, &[0xCD, 0x34]),
-        Ok(Some(Step::Ended(JobEnd::Differs(0x34CD)))),
-    ),
+    (Order(FIRST, 0x2000), BEGUN), (Finish(true), NEXT), (Got(&[]), NEXT), (Finish(true), NEXT),
+    (Answered(READ_FIRST, &[0xCD, 0x34]), Ok(Some(Step::Ended(JobEnd::Differs(0x34CD))))),
 ];
 
 static ANOTHER_PASS: [(Call<'static>, Answer); 2] = [

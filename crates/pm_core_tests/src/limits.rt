@@ -23,27 +23,19 @@ const INVERTED: Option<LimitFault> = Some(LimitFault::LimitsInverted);
 
 const WIDENED: Option<LimitFault> = Some(LimitFault::LimitsWidened);
 
+#[rattlefmt::skip]
 static NEW: [(i64, i64, Option<LimitFault>); 9] = [
     (0, 0, None),
     (-1_000_000_000_000_000, 1_000_000_000_000_000, None),
-    (-1_000_000_000_000_001, 0, TOO_LARGE),
-    (0, 1_000_000_000_000_001, TOO_LARGE),
-    (1_000_000_000_000_001, 0, TOO_LARGE),
-    (i64::MIN, i64::MAX, TOO_LARGE),
-    (1, 0, INVERTED),
-    (-1, 0, None),
-    (0, -1, INVERTED),
+    (-1_000_000_000_000_001, 0, TOO_LARGE), (0, 1_000_000_000_000_001, TOO_LARGE),
+    (1_000_000_000_000_001, 0, TOO_LARGE), (i64::MIN, i64::MAX, TOO_LARGE), (1, 0, INVERTED),
+    (-1, 0, None), (0, -1, INVERTED),
 ];
 
 #[test]
 fn limits_are_in_order_and_in_range(rt: HostRuntime) {
     for (least, most, wanted) in &NEW {
-        equal(
-            &rt,
-            &Limits::new(*least, *most).err(),
-            wanted,
-            &(least, most),
-        );
+        compare! { &rt, (least, most); Limits::new(*least, *most).err() => *wanted }
     }
 }
 
@@ -70,26 +62,20 @@ static NARROWED: [(i64, i64, Option<LimitFault>, (i64, i64)); 7] = [
 fn limits_are_narrowed_and_never_widened(rt: HostRuntime) {
     let mut guard = guard(3_200_000, 3_465_000);
     for (least, most, wanted, left) in &NARROWED {
-        equal(
-            &rt,
-            &guard.narrow(0, *least, *most).err(),
-            wanted,
-            &(least, most),
-        );
-        equal(&rt, &limits_of(&guard, 0), &Some(*left), &(least, most));
-        equal(&rt, &limits_of(&guard, 1), &None, &(least, most));
+        compare! { &rt, (least, most);
+            guard.narrow(0, *least, *most).err() => *wanted;
+            limits_of(&guard, 0) => Some(*left);
+            limits_of(&guard, 1) => None;
+        }
     }
     let absent = Some(LimitFault::Host(HostFault::UnknownOutput));
-    equal(&rt, &guard.narrow(2, i64::MAX, 0).err(), &absent, &1);
-    equal(&rt, &guard.narrow(1, -5, 5).err(), &None, &2);
-    equal(&rt, &limits_of(&guard, 1), &Some((-5, 5)), &3);
-    equal(
-        &rt,
-        &limits_of(&guard, 0),
-        &Some((3_250_000, 3_400_000)),
-        &4,
-    );
-    equal(&rt, &limits_of(&guard, 255), &None, &5);
+    compare! { &rt;
+        1, guard.narrow(2, i64::MAX, 0).err() => absent;
+        2, guard.narrow(1, -5, 5).err() => None;
+        3, limits_of(&guard, 1) => Some((-5, 5));
+        4, limits_of(&guard, 0) => Some((3_250_000, 3_400_000));
+        5, limits_of(&guard, 255) => None;
+    }
 }
 
 #[test]
@@ -97,14 +83,11 @@ fn a_narrowing_holds_from_then_on(rt: HostRuntime) {
     let mut guard = guard(3_200_000, 3_465_000);
     learn(&mut guard, 0, LINEAR, &[]);
     let job = Job::Order(first(Reg::VoutCommand), 14192);
-    equal(&rt, &refusal(&mut guard, job), &None, &1);
-    equal(&rt, &guard.narrow(0, 3_200_000, 3_400_000).err(), &None, &2);
-    equal(
-        &rt,
-        &refusal(&mut guard, job),
-        &Some(LimitFault::AboveLimit),
-        &3,
-    );
+    compare! { &rt;
+        1, refusal(&mut guard, job) => None;
+        2, guard.narrow(0, 3_200_000, 3_400_000).err() => None;
+        3, refusal(&mut guard, job) => Some(LimitFault::AboveLimit);
+    }
 }
 
 // The example of the root, word for word.

@@ -39,14 +39,10 @@ fn parts<F: NumFormat>(format: &F, word: u16) -> (i128, i128) {
     (value.num(), value.den())
 }
 
+#[rattlefmt::skip]
 static LINEAR11_WORDS: [(u16, (i128, i128)); 7] = [
-    (0xD300, (768, 64)),
-    (0x07D8, (-40, 1)),
-    (0x87FF, (-1, 65536)),
-    (0x7BFF, (33_521_664, 1)),
-    (0x7C00, (-33_554_432, 1)),
-    (0x0BFF, (2046, 1)),
-    (0x0C00, (-2048, 1)),
+    (0xD300, (768, 64)), (0x07D8, (-40, 1)), (0x87FF, (-1, 65536)), (0x7BFF, (33_521_664, 1)),
+    (0x7C00, (-33_554_432, 1)), (0x0BFF, (2046, 1)), (0x0C00, (-2048, 1)),
 ];
 
 static ULINEAR16_WORDS: [(i8, u16, (i128, i128)); 2] = [
@@ -74,24 +70,14 @@ fn words_stand_for_the_defined_pairs(rt: HostRuntime) {
     }
 }
 
+#[rattlefmt::skip]
 static LINEAR11_NUMBERS: [(i64, Result<u16, NumFault>); 9] = [
-    (0, Ok(0x0000)),
-    (12_000_000, Ok(0x000C)),
-    (1_024_000_000, Ok(0x0A00)),
-    (2_047_000_000, Ok(0x0BFF)),
-    (-2_047_000_000, Ok(0x0C00)),
-    (33_521_664_000_000, Ok(0x7BFF)),
+    (0, Ok(0x0000)), (12_000_000, Ok(0x000C)), (1_024_000_000, Ok(0x0A00)),
+    (2_047_000_000, Ok(0x0BFF)), (-2_047_000_000, Ok(0x0C00)), (33_521_664_000_000, Ok(0x7BFF)),
     (33_521_664_000_001, Err(NumFault::AboveGreatest)),
     (-33_554_432_000_000, Ok(0x7C00)),
     (-33_554_432_000_001, Err(NumFault::BelowLeast)),
 ];
-
-#[test]
-fn linear11_encodes_known_numbers(rt: HostRuntime) {
-    for (row, (millionths, want)) in LINEAR11_NUMBERS.iter().enumerate() {
-        agrees(&rt, row, &encoded(&Linear11, volts(&rt, *millionths)), want);
-    }
-}
 
 static ULINEAR16_NUMBERS: [(i8, i64, Result<u16, NumFault>); 3] = [
     (-12, 3_300_000, Ok(0x34CD)),
@@ -115,7 +101,10 @@ static DIRECT_NUMBERS: [((i16, i16, i8), i64, Result<u16, NumFault>); 10] = [
 ];
 
 #[test]
-fn the_grids_encode_known_numbers(rt: HostRuntime) {
+fn known_numbers_are_encoded(rt: HostRuntime) {
+    for (row, (millionths, want)) in LINEAR11_NUMBERS.iter().enumerate() {
+        agrees(&rt, row, &encoded(&Linear11, volts(&rt, *millionths)), want);
+    }
     for (row, (n, millionths, want)) in ULINEAR16_NUMBERS.iter().enumerate() {
         let found = encoded(&unsigned(&rt, *n), volts(&rt, *millionths));
         agrees(&rt, row, &found, want);
@@ -154,14 +143,10 @@ const MOST: i128 = 0x80_0000_0000_0000;
 
 const BEYOND: i128 = 0x80_0000_0000_0001;
 
+#[rattlefmt::skip]
 static PAIRS: [(i128, i128, bool); 7] = [
-    (0, 0, false),
-    (0, 1, true),
-    (MOST, MOST, true),
-    (-MOST, MOST, true),
-    (BEYOND, 1, false),
-    (-BEYOND, 1, false),
-    (0, BEYOND, false),
+    (0, 0, false), (0, 1, true), (MOST, MOST, true), (-MOST, MOST, true), (BEYOND, 1, false),
+    (-BEYOND, 1, false), (0, BEYOND, false),
 ];
 
 // Whether this is an exponent of ULINEAR16.

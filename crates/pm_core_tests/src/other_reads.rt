@@ -7,6 +7,7 @@ ghost use Rattle.pm_table.specs.Address.{IsAddress};
 
 use crate::checks::agrees;
 use crate::framing::answer_fault;
+use pm_frame::FrameFault::{Long, NotOurs, Short, WrongCount, WrongPec};
 use pm_frame::{
     FrameFault, MOST_READ, Message, code_request, fits, is_carried, paged_request, read_block,
     read_paged, read_plain,
@@ -50,129 +51,46 @@ static TOO_MANY: [u8; 36] = [
 type Payload = Result<&'static [u8], FrameFault>;
 
 // The code, what came back from 58h, and the payload or the first fault. MFR_ID (99h) is `LTC`.
+#[rattlefmt::skip]
 static BLOCKS: [(u8, &[u8], Payload); 19] = [
     (0x99, &[0xB1, 0x03, 0x4C, 0x54, 0x43, 0x9F], Ok(b"LTC")),
-    (0x9A, &[0xB1, 0x00, 0xEC], Ok(&[])),
-    (0x99, &[], Err(FrameFault::NotOurs)),
-    (
-        0x99,
-        &[0xB0, 0x03, 0x4C, 0x54, 0x43, 0x9F],
-        Err(FrameFault::NotOurs),
-    ),
-    (
-        0x99,
-        &[0x9F, 0x03, 0x4C, 0x54, 0x43, 0x9F],
-        Err(FrameFault::NotOurs),
-    ),
-    (0x99, &[0xB1], Err(FrameFault::Short(1))),
-    (0x9A, &[0xB1, 0x00], Err(FrameFault::Short(2))),
-    (
-        0x99,
-        &[0xB1, 0x03, 0x4C, 0x54, 0x43],
-        Err(FrameFault::Short(5)),
-    ),
-    (
-        0x99,
-        &[0xB1, 0x04, 0x4C, 0x54, 0x43, 0x9F],
-        Err(FrameFault::Short(6)),
-    ),
-    (
-        0x99,
-        &[0xB1, 0x03, 0x4C, 0x54, 0x43, 0x9F, 0x00],
-        Err(FrameFault::Long(6)),
-    ),
-    (
-        0x99,
-        &[0xB1, 0x02, 0x4C, 0x54, 0x43, 0x9F],
-        Err(FrameFault::Long(5)),
-    ),
-    (0x9E, &[0xB1, 0x21], Err(FrameFault::WrongCount(1))),
-    (
-        0x99,
-        &[0xB1, 0xFF, 0xFF, 0xFF, 0xFF, 0xFF],
-        Err(FrameFault::WrongCount(1)),
-    ),
+    (0x9A, &[0xB1, 0x00, 0xEC], Ok(&[])), (0x99, &[], Err(NotOurs)),
+    (0x99, &[0xB0, 0x03, 0x4C, 0x54, 0x43, 0x9F], Err(NotOurs)),
+    (0x99, &[0x9F, 0x03, 0x4C, 0x54, 0x43, 0x9F], Err(NotOurs)),
+    (0x99, &[0xB1], Err(Short(1))), (0x9A, &[0xB1, 0x00], Err(Short(2))),
+    (0x99, &[0xB1, 0x03, 0x4C, 0x54, 0x43], Err(Short(5))),
+    (0x99, &[0xB1, 0x04, 0x4C, 0x54, 0x43, 0x9F], Err(Short(6))),
+    (0x99, &[0xB1, 0x03, 0x4C, 0x54, 0x43, 0x9F, 0x00], Err(Long(6))),
+    (0x99, &[0xB1, 0x02, 0x4C, 0x54, 0x43, 0x9F], Err(Long(5))),
+    (0x9E, &[0xB1, 0x21], Err(WrongCount(1))),
+    (0x99, &[0xB1, 0xFF, 0xFF, 0xFF, 0xFF, 0xFF], Err(WrongCount(1))),
     // another PEC, that of nothing but the answer, that from the code on, that of another code's, and changed bytes
-    (
-        0x99,
-        &[0xB1, 0x03, 0x4C, 0x54, 0x43, 0x9E],
-        Err(FrameFault::WrongPec(5)),
-    ),
-    (
-        0x99,
-        &[0xB1, 0x03, 0x4C, 0x54, 0x43, 0x73],
-        Err(FrameFault::WrongPec(5)),
-    ),
-    (
-        0x99,
-        &[0xB1, 0x03, 0x4C, 0x54, 0x43, 0x67],
-        Err(FrameFault::WrongPec(5)),
-    ),
-    (
-        0x9A,
-        &[0xB1, 0x03, 0x4C, 0x54, 0x43, 0x9F],
-        Err(FrameFault::WrongPec(5)),
-    ),
-    (
-        0x99,
-        &[0xB1, 0x03, 0x4C, 0x54, 0x42, 0x9F],
-        Err(FrameFault::WrongPec(5)),
-    ),
-    (0x9A, &[0xB1, 0x00, 0x00], Err(FrameFault::WrongPec(2))),
+    (0x99, &[0xB1, 0x03, 0x4C, 0x54, 0x43, 0x9E], Err(WrongPec(5))),
+    (0x99, &[0xB1, 0x03, 0x4C, 0x54, 0x43, 0x73], Err(WrongPec(5))),
+    (0x99, &[0xB1, 0x03, 0x4C, 0x54, 0x43, 0x67], Err(WrongPec(5))),
+    (0x9A, &[0xB1, 0x03, 0x4C, 0x54, 0x43, 0x9F], Err(WrongPec(5))),
+    (0x99, &[0xB1, 0x03, 0x4C, 0x54, 0x42, 0x9F], Err(WrongPec(5))),
+    (0x9A, &[0xB1, 0x00, 0x00], Err(WrongPec(2))),
 ];
 
 // The code, how many bytes were asked for, what came back from 58h, and the payload or the first fault. STATUS_WORD (79h)
 // is 0040h, CAPABILITY (19h) is B0h.
+#[rattlefmt::skip]
 static PLAIN: [(u8, usize, &[u8], Payload); 14] = [
     (0x79, 2, &[0xB1, 0x40, 0x00, 0x8F], Ok(&[0x40, 0x00])),
     (0x19, 1, &[0xB1, 0xB0, 0x43], Ok(&[0xB0])),
-    (0x79, 2, &[], Err(FrameFault::NotOurs)),
-    (0x79, 2, &[0xB0, 0x40, 0x00, 0x8F], Err(FrameFault::NotOurs)),
-    (0x79, 2, &[0xB1], Err(FrameFault::Short(1))),
-    (0x79, 2, &[0xB1, 0x40, 0x00], Err(FrameFault::Short(3))),
-    (
-        0x79,
-        3,
-        &[0xB1, 0x40, 0x00, 0x8F],
-        Err(FrameFault::Short(4)),
-    ),
-    (
-        0x79,
-        2,
-        &[0xB1, 0x40, 0x00, 0x8F, 0x00],
-        Err(FrameFault::Long(4)),
-    ),
-    (0x79, 1, &[0xB1, 0x40, 0x00, 0x8F], Err(FrameFault::Long(3))),
-    (
-        0x79,
-        2,
-        &[0xB1, 0x40, 0x00, 0x8E],
-        Err(FrameFault::WrongPec(3)),
-    ),
-    (
-        0x79,
-        2,
-        &[0xB1, 0x40, 0x00, 0xDA],
-        Err(FrameFault::WrongPec(3)),
-    ),
-    (
-        0x78,
-        2,
-        &[0xB1, 0x40, 0x00, 0x8F],
-        Err(FrameFault::WrongPec(3)),
-    ),
-    (
-        0x79,
-        2,
-        &[0xB1, 0xFF, 0xFF, 0xFF],
-        Err(FrameFault::WrongPec(3)),
-    ),
-    (
-        0x79,
-        2,
-        &[0xB1, 0x00, 0x00, 0x00],
-        Err(FrameFault::WrongPec(3)),
-    ),
+    (0x79, 2, &[], Err(NotOurs)),
+    (0x79, 2, &[0xB0, 0x40, 0x00, 0x8F], Err(NotOurs)),
+    (0x79, 2, &[0xB1], Err(Short(1))),
+    (0x79, 2, &[0xB1, 0x40, 0x00], Err(Short(3))),
+    (0x79, 3, &[0xB1, 0x40, 0x00, 0x8F], Err(Short(4))),
+    (0x79, 2, &[0xB1, 0x40, 0x00, 0x8F, 0x00], Err(Long(4))),
+    (0x79, 1, &[0xB1, 0x40, 0x00, 0x8F], Err(Long(3))),
+    (0x79, 2, &[0xB1, 0x40, 0x00, 0x8E], Err(WrongPec(3))),
+    (0x79, 2, &[0xB1, 0x40, 0x00, 0xDA], Err(WrongPec(3))),
+    (0x78, 2, &[0xB1, 0x40, 0x00, 0x8F], Err(WrongPec(3))),
+    (0x79, 2, &[0xB1, 0xFF, 0xFF, 0xFF], Err(WrongPec(3))),
+    (0x79, 2, &[0xB1, 0x00, 0x00, 0x00], Err(WrongPec(3))),
 ];
 
 // What came back for a block read of this code of this device.
@@ -198,7 +116,7 @@ fn a_block_is_read_or_has_its_first_fault(rt: HostRuntime) {
     }
     agrees(&rt, 19, &block(0x58, 0x9E, &MOST_BLOCK), &Ok(&MOST));
     let found = block(0x58, 0x9E, &TOO_MANY);
-    agrees(&rt, 20, &found, &Err(FrameFault::WrongCount(1)));
+    agrees(&rt, 20, &found, &Err(WrongCount(1)));
 }
 
 #[test]
@@ -210,16 +128,13 @@ fn a_plain_read_is_read_or_has_its_first_fault(rt: HostRuntime) {
         assert!(rt; size <= MOST_READ);
         agrees(&rt, row, &plain(0x58, *code, size, got), wanted);
     }
-    agrees(&rt, 14, &plain(0x58, 0xD0, 32, &MOST_PLAIN), &Ok(&MOST));
-    // READ_VOUT of 4Fh
-    agrees(
-        &rt,
-        15,
-        &plain(0x4F, 0x8B, 2, &[0x9F, 0xCD, 0x34, 0x2A]),
-        &Ok(&[0xCD, 0x34]),
-    );
-    agrees(&rt, 16, &code_request(0x58, 0x99), &[0xB0, 0x99]);
-    agrees(&rt, 17, &code_request(0x4F, 0x8B), &[0x9E, 0x8B]);
+    compare! { &rt;
+        14, plain(0x58, 0xD0, 32, &MOST_PLAIN) => Ok(&MOST);
+        // READ_VOUT of 4Fh
+        15, plain(0x4F, 0x8B, 2, &[0x9F, 0xCD, 0x34, 0x2A]) => Ok(&[0xCD, 0x34]);
+        16, code_request(0x58, 0x99) => [0xB0, 0x99];
+        17, code_request(0x4F, 0x8B) => [0x9E, 0x8B];
+    }
 }
 
 // The page, the code, the size that was asked for, what came back from 58h, and the payload or the first fault. VOUT_OV_FAULT_LIMIT
@@ -230,20 +145,20 @@ static PAGED: [(u8, u8, Option<usize>, &[u8], Payload); 18] = [
     (1, 0x7A, Some(1), &[0xB1, 0x01, 0x10, 0x50], Ok(&[0x10])),
     (0, 0x99, None, &[0xB1, 0x03, 0x4C, 0x54, 0x43, 0x6D], Ok(b"LTC")),
     (0, 0x99, None, &[0xB1, 0x00, 0x03], Ok(&[])),
-    (0, 0x40, Some(2), &[], Err(FrameFault::NotOurs)),
-    (0, 0x40, Some(2), &[0xB0, 0x02, 0xCD, 0x3C, 0x4F], Err(FrameFault::NotOurs)),
-    (0, 0x40, Some(2), &[0xB1], Err(FrameFault::Short(1))),
-    (0, 0x40, Some(2), &[0xB1, 0x02], Err(FrameFault::Short(2))),
-    (0, 0x40, Some(2), &[0xB1, 0x02, 0xCD, 0x3C], Err(FrameFault::Short(4))),
-    (0, 0x40, Some(2), &[0xB1, 0x02, 0xCD, 0x3C, 0x4F, 0x00], Err(FrameFault::Long(5))),
-    (0, 0x40, Some(1), &[0xB1, 0x02, 0xCD, 0x3C, 0x4F], Err(FrameFault::WrongCount(1))),
-    (0, 0x40, Some(3), &[0xB1, 0x02, 0xCD, 0x3C, 0x4F], Err(FrameFault::WrongCount(1))),
-    (0, 0x99, None, &[0xB1, 0x21], Err(FrameFault::WrongCount(1))),
-    (0, 0x40, Some(2), &[0xB1, 0xFF, 0xFF, 0xFF, 0xFF], Err(FrameFault::WrongCount(1))),
-    (1, 0x40, Some(2), &[0xB1, 0x02, 0xCD, 0x3C, 0x4F], Err(FrameFault::WrongPec(4))),
-    (0, 0x44, Some(2), &[0xB1, 0x02, 0xCD, 0x3C, 0x4F], Err(FrameFault::WrongPec(4))),
-    (0, 0x40, Some(2), &[0xB1, 0x02, 0xCD, 0x3D, 0x4F], Err(FrameFault::WrongPec(4))),
-    (0, 0x40, Some(2), &[0xB1, 0x02, 0xCD, 0x3C, 0xE8], Err(FrameFault::WrongPec(4))),
+    (0, 0x40, Some(2), &[], Err(NotOurs)),
+    (0, 0x40, Some(2), &[0xB0, 0x02, 0xCD, 0x3C, 0x4F], Err(NotOurs)),
+    (0, 0x40, Some(2), &[0xB1], Err(Short(1))),
+    (0, 0x40, Some(2), &[0xB1, 0x02], Err(Short(2))),
+    (0, 0x40, Some(2), &[0xB1, 0x02, 0xCD, 0x3C], Err(Short(4))),
+    (0, 0x40, Some(2), &[0xB1, 0x02, 0xCD, 0x3C, 0x4F, 0x00], Err(Long(5))),
+    (0, 0x40, Some(1), &[0xB1, 0x02, 0xCD, 0x3C, 0x4F], Err(WrongCount(1))),
+    (0, 0x40, Some(3), &[0xB1, 0x02, 0xCD, 0x3C, 0x4F], Err(WrongCount(1))),
+    (0, 0x99, None, &[0xB1, 0x21], Err(WrongCount(1))),
+    (0, 0x40, Some(2), &[0xB1, 0xFF, 0xFF, 0xFF, 0xFF], Err(WrongCount(1))),
+    (1, 0x40, Some(2), &[0xB1, 0x02, 0xCD, 0x3C, 0x4F], Err(WrongPec(4))),
+    (0, 0x44, Some(2), &[0xB1, 0x02, 0xCD, 0x3C, 0x4F], Err(WrongPec(4))),
+    (0, 0x40, Some(2), &[0xB1, 0x02, 0xCD, 0x3D, 0x4F], Err(WrongPec(4))),
+    (0, 0x40, Some(2), &[0xB1, 0x02, 0xCD, 0x3C, 0xE8], Err(WrongPec(4))),
 ];
 
 // The payload or the first fault of a read by PAGE_PLUS.
@@ -264,27 +179,15 @@ fn a_read_by_page_plus_is_read_or_has_its_first_fault(rt: HostRuntime) {
         }
         agrees(&rt, row, &paged(*page, *code, size, got), wanted);
     }
-    agrees(
-        &rt,
-        18,
-        &paged_request(0x58, 1, 0x40),
-        &[0xB0, 0x06, 0x02, 0x01, 0x40],
-    );
+    compare! { &rt, 18; paged_request(0x58, 1, 0x40) => [0xB0, 0x06, 0x02, 0x01, 0x40] }
 }
 
 // The codes that PAGE_PLUS doesn't carry (PMBus 1.3 Part II): PAGE, PAGE_PLUS_WRITE, PAGE_PLUS_READ; and COEFFICIENTS, by this
 // project's own choice. Beside them codes that it carries.
+#[rattlefmt::skip]
 static CARRIED: [(u8, bool); 10] = [
-    (0x00, false),
-    (0x05, false),
-    (0x06, false),
-    (0x30, false),
-    (0x01, true),
-    (0x04, true),
-    (0x07, true),
-    (0x40, true),
-    (0x79, true),
-    (0xFF, true),
+    (0x00, false), (0x05, false), (0x06, false), (0x30, false), (0x01, true), (0x04, true),
+    (0x07, true), (0x40, true), (0x79, true), (0xFF, true),
 ];
 
 #[test]
@@ -296,28 +199,11 @@ fn page_plus_carries_all_codes_but_four(rt: HostRuntime) {
 
 // The read of VOUT_COMMAND of output 0, that of VOUT_MARGIN_LOW of output 1, which shares its PEC, and that of
 // VOUT_MARGIN_HIGH of output 0, which doesn't; and the fault of one answer to the first.
+#[rattlefmt::skip]
 static LATE: [(Message, Option<FrameFault>); 3] = [
-    (
-        Message::PagePlusRead {
-            page: 0,
-            code: 0x21,
-        },
-        None,
-    ),
-    (
-        Message::PagePlusRead {
-            page: 1,
-            code: 0x26,
-        },
-        None,
-    ),
-    (
-        Message::PagePlusRead {
-            page: 0,
-            code: 0x25,
-        },
-        Some(FrameFault::WrongPec(4)),
-    ),
+    (Message::PagePlusRead { page: 0, code: 0x21 }, None),
+    (Message::PagePlusRead { page: 1, code: 0x26 }, None),
+    (Message::PagePlusRead { page: 0, code: 0x25 }, Some(WrongPec(4))),
 ];
 
 #[test]

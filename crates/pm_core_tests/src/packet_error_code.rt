@@ -21,30 +21,11 @@ static MESSAGES: [(&[u8], u8); 4] = [
     (&[], 0x00),
 ];
 
-#[test]
-fn pec_of_known_messages(rt: HostRuntime) {
-    for (row, (message, code)) in MESSAGES.iter().enumerate() {
-        agrees(&rt, row, &found(message), code);
-    }
-}
-
+#[rattlefmt::skip]
 static BITS: [(u8, u8); 8] = [
-    (0x01, 0x07),
-    (0x02, 0x0E),
-    (0x04, 0x1C),
-    (0x08, 0x38),
-    (0x10, 0x70),
-    (0x20, 0xE0),
-    (0x40, 0xC7),
-    (0x80, 0x89),
+    (0x01, 0x07), (0x02, 0x0E), (0x04, 0x1C), (0x08, 0x38), (0x10, 0x70), (0x20, 0xE0),
+    (0x40, 0xC7), (0x80, 0x89),
 ];
-
-#[test]
-fn pec_of_each_single_bit(rt: HostRuntime) {
-    for (row, (byte, code)) in BITS.iter().enumerate() {
-        agrees(&rt, row, &found(&[*byte]), code);
-    }
-}
 
 // The bytes 0, 7, 14 and so on, in each length up to 80.
 #[test]
@@ -62,18 +43,22 @@ fn pec_by_the_table_is_pec_bit_by_bit(rt: HostRuntime) {
     }
 }
 
-// The first and the last bit of sixteen bytes are 127 apart, and change the code alike.
 #[test]
-fn two_bits_127_apart_change_nothing(rt: HostRuntime) {
+fn pec_of_known_messages(rt: HostRuntime) {
+    for (row, (message, code)) in MESSAGES.iter().enumerate() {
+        agrees(&rt, row, &found(message), code);
+    }
+    // Each single bit has its PEC.
+    for (row, (byte, code)) in BITS.iter().enumerate() {
+        agrees(&rt, row, &found(&[*byte]), code);
+    }
+    // The first and the last bit of sixteen bytes are 127 apart, and change the code alike.
     let mut bytes = [0u8; 16];
     agrees(&rt, 0, &found(&bytes), &0x00);
     bytes[0] = 0x80;
     bytes[15] = 0x01;
     agrees(&rt, 1, &found(&bytes), &0x00);
-}
-
-#[test]
-fn pec_carries_on_over_the_parts_of_a_message(rt: HostRuntime) {
+    // The PEC carries on over the parts of a message.
     let front = found(&[0xB0, 0x05, 0x04]);
     let whole = found_after(front, &[0x00, 0x21, 0xCD, 0x34]);
     agrees(&rt, 0, &whole, &0x5A);

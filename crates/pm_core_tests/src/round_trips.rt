@@ -18,12 +18,7 @@ fn a_write_is_put_on_the_wire_and_read_again(rt: HostRuntime) {
         agrees(&rt, row, &frame.as_slice(), &write.bytes);
         agrees(&rt, row, &betrayed(&[], write.bytes), &false);
         let shown = write_shown(write.addr, write.bytes);
-        agrees(
-            &rt,
-            row,
-            &shown,
-            &Ok((write.message, write.page, write.code)),
-        );
+        compare! { &rt, row; shown => Ok((write.message, write.page, write.code)) }
         let carries = write_carries(write.addr, write.bytes, write.payload);
         agrees(&rt, row, &carries, &true);
     }

@@ -1,4 +1,2 @@
 -- Lemmas of this crate.
-mod Good
-mod Hosts
-mod Says
+mod CourseFrames

@@ -20,7 +20,7 @@ use Rattle.pm_rail.specs.declared.wanted.Wanted.{Wanted}
 use Rattle.pm_rail.specs.Course.{course_of}
 use Rattle.pm_rail.specs.Known.{sole}
 use Rattle.pm_rail.specs.Orders.{voltages}
-use Rattle.pm_rail.specs.Registers.{wants_of, with_word}
+use Rattle.pm_rail.specs.Registers.{wants_of, wanted_with_word}
 use Rattle.pm_course.specs.declared.accept_fault.AcceptFault.TheVariants.{NotNear}
 use Rattle.pm_course.specs.declared.course_end.CourseEnd.{CourseEnd}
 use Rattle.pm_course.specs.declared.course_end.CourseEnd.TheVariants.{Reached, Refused, Differs, NoFormat, OtherSource, Spent}
@@ -60,13 +60,13 @@ IsAim shape None (Some word) aim = IsFloor (shape_value shape word) aim
 IsAim shape None None aim = aim ≡ Err TooLarge
 
 -- a value lies within a tolerance of so many microvolts, both ends counted; none does of microvolts beyond 10^15
-abbrev pub is_near : ℤ → ℕ → Ratio → Bool
-is_near x tolerance value =
+abbrev pub is_value_near : ℤ → ℕ → Ratio → Bool
+is_value_near x tolerance value =
     not (is_above (micros (x -ℤ pos tolerance)) value) && not (is_above value (micros (x +ℤ pos tolerance)))
 
 abbrev pub is_near_aim : Result ℤ NumFault → ℕ → Ratio → Bool
 is_near_aim (Err fault) tolerance value = false
-is_near_aim (Ok x) tolerance value = not (nat_lt (10 ^ 15) (unsigned_abs x)) && is_near x tolerance value
+is_near_aim (Ok x) tolerance value = not (nat_lt (10 ^ 15) (unsigned_abs x)) && is_value_near x tolerance value
 
 -- why a word isn't taken: P9 where it isn't near, then L3 or L4 by the limits
 abbrev pub limits_refuse : OutputLimits → Ratio → Reg → Option Refusal
@@ -105,18 +105,18 @@ pub data IsMeaning (shape : Shape) (register : Reg) (word : ℕ) : Option ℤ �
 abbrev pub anew : FrameCourse → Wanted → Voltages → FrameCourse
 anew c words v = going_on (course_of c.course.survey.output words c.course.survey.left) v
 
-abbrev pub taking : FrameCourse → Wanted → Reg → ℕ → Option ℤ → Option ℤ → Result FrameCourse Refusal
-taking c words register word None meaning = Ok (anew c (with_word words register word) c.voltages)
-taking c words register word (Some x) (Some meaning) = Ok (anew c words (with_voltage c.voltages register meaning))
-taking c words register word (Some x) None = Err (refused_at not_near register)
+abbrev pub taking_word : FrameCourse → Wanted → Reg → ℕ → Option ℤ → Option ℤ → Result FrameCourse Refusal
+taking_word c words register word None meaning = Ok (anew c (wanted_with_word words register word) c.voltages)
+taking_word c words register word (Some x) (Some meaning) = Ok (anew c words (with_voltage c.voltages register meaning))
+taking_word c words register word (Some x) None = Err (refused_at not_near register)
 
 abbrev pub taken_unless : Option Refusal → Result FrameCourse Refusal → Result FrameCourse Refusal
 taken_unless (Some refusal) taken = Err refusal
 taken_unless None taken = taken
 
 -- the word that a register of the course's output is known to hold
-abbrev pub word_at : Summary → FrameCourse → Reg → Option ℕ
-word_at s c register = sole (possible_at s (Out c.course.survey.output register))
+abbrev pub known_word_at : Summary → FrameCourse → Reg → Option ℕ
+known_word_at s c register = sole (possible_at s (Out c.course.survey.output register))
 
 -- What becomes of a course that is to take a held word: H3 while a job is open, P9 where nothing is wanted, P1 without a format, P4
 -- where the word isn't known; otherwise it is judged.
@@ -131,15 +131,15 @@ pub data Takes (limits : OutputLimits) (s : Summary) (c : FrameCourse) (toleranc
       → Takes limits s c tolerance (Err (refusal_of_plan plan.FormatUnknown))
   not_known : (words : Wanted) (register : Reg) (shape : Shape) → is_busy s ≡ false → c.course.survey.plan ≡ Some words
       → taken_of words c.voltages c.end ≡ Some register → format_at s c.course.survey.output ≡ Some shape
-      → word_at s c register ≡ None
+      → known_word_at s c register ≡ None
       → Takes limits s c tolerance (Err (refusal_of_plan (plan.NotKnown (Out c.course.survey.output register))))
   judged : (words : Wanted) (register : Reg) (shape : Shape) (word : ℕ) (aim : Result ℤ NumFault) (meaning : Option ℤ)
       (taken : Result FrameCourse Refusal)
       → is_busy s ≡ false → c.course.survey.plan ≡ Some words → taken_of words c.voltages c.end ≡ Some register
-      → format_at s c.course.survey.output ≡ Some shape → word_at s c register ≡ Some word
+      → format_at s c.course.survey.output ≡ Some shape → known_word_at s c register ≡ Some word
       → IsAim shape (voltage_of c.voltages register) (wants_of words register) aim → IsMeaning shape register word meaning
       → taken ≡ taken_unless (near_refusal limits (shape_value shape word) register aim tolerance)
-      (taking c words register word (voltage_of c.voltages register) meaning) → Takes limits s c tolerance taken
+      (taking_word c words register word (voltage_of c.voltages register) meaning) → Takes limits s c tolerance taken
 
 -- the answer, and the course after it: as it was where the word is refused
 abbrev pub taken_answer : Result FrameCourse Refusal → Result (Unit {0}) Refusal

@@ -129,37 +129,37 @@ pub record Says : Type 0 where
   pub next : CourseNext
   pub after : FrameCourse
 
-abbrev pub ends : FrameCourse → CourseEnd → Says
-ends c end = record { next = Ended end; after = record c { end = Some end } }
+abbrev pub course_ends : FrameCourse → CourseEnd → Says
+course_ends c end = record { next = Ended end; after = record c { end = Some end } }
 
-abbrev pub asks : FrameCourse → Course → Asked → Says
-asks c course job = record { next = Job job; after = record c { course = course; end = None } }
+abbrev pub course_asks : FrameCourse → Course → Asked → Says
+course_asks c course job = record { next = Job job; after = record c { course = course; end = None } }
 
 abbrev pub saying_for : FrameCourse → Course → Asked → Result Asked Refusal → Says
-saying_for c after named (Err refusal) = ends c (Refused refusal)
-saying_for c after named (Ok job) = asks c (asking_for c.course after named job) job
+saying_for c after named (Err refusal) = course_ends c (Refused refusal)
+saying_for c after named (Ok job) = course_asks c (asking_for c.course after named job) job
 
 abbrev pub saying_next : Summary → FrameCourse → Course → Next → Says
-saying_next s c after (way.Ended end) = ends c (end_of c.fault end)
+saying_next s c after (way.Ended end) = course_ends c (end_of c.fault end)
 saying_next s c after (way.Job job) = saying_for c after job (asked_for s c.course c.course.byte job)
 
 -- what it says with the words that its wishes have
 abbrev pub saying_planned : PartRegisters → OutputLimits → Summary → FrameCourse → Result Wanted Refusal → Says
-saying_planned part limits s c (Err refusal) = ends c (Refused refusal)
+saying_planned part limits s c (Err refusal) = course_ends c (Refused refusal)
 saying_planned part limits s c (Ok words) =
     let course = with_plan c.course (planning c.course words) in
     saying_next s c (after_next part limits s course) (next_of part limits s course)
 
 abbrev pub saying_source : PartRegisters → OutputLimits → Summary → FrameCourse → Result Wanted Refusal → Option ℕ → Says
-saying_source part limits s c words (Some byte) = ends c (OtherSource byte)
+saying_source part limits s c words (Some byte) = course_ends c (OtherSource byte)
 saying_source part limits s c words None = saying_planned part limits s c words
 
 abbrev pub saying_missing : PartRegisters → OutputLimits → Summary → FrameCourse → Result Wanted Refusal → Option Refusal → Says
-saying_missing part limits s c words (Some refusal) = ends c (Refused refusal)
+saying_missing part limits s c words (Some refusal) = course_ends c (Refused refusal)
 saying_missing part limits s c words None = saying_source part limits s c words (source_of s c.course c.course.byte)
 
 abbrev pub saying_idle : PartRegisters → OutputLimits → Summary → FrameCourse → Result Wanted Refusal → Says
-saying_idle part limits s c words = if is_busy s then ends c busy_end
+saying_idle part limits s c words = if is_busy s then course_ends c busy_end
     else saying_missing part limits s c words (missing_of part c)
 
 -- the end that a course has come to, and that stays
@@ -168,7 +168,7 @@ last_end None = None
 last_end (Some end) = rule (not (is_open_end end)) end
 
 abbrev pub saying_by : PartRegisters → OutputLimits → Summary → FrameCourse → Result Wanted Refusal → Option CourseEnd → Says
-saying_by part limits s c words (Some end) = ends c end
+saying_by part limits s c words (Some end) = course_ends c end
 saying_by part limits s c words None = saying_idle part limits s c words
 
 abbrev pub saying : PartRegisters → OutputLimits → Summary → FrameCourse → Result Wanted Refusal → Says

@@ -8,7 +8,7 @@ use Rattle.pm_host.specs.declared.fault.Untold.TheVariants.{NothingSent, WrongKi
 use Rattle.pm_host.specs.declared.job.Job.{Job as Asked}
 use Rattle.pm_host.specs.declared.stage.Stage.{Stage}
 use Rattle.pm_host.specs.Refusals.{may_come}
-use Rattle.pm_host.specs.Summary.{next, sending_in, step_of}
+use Rattle.pm_host.specs.Summary.{host_next, sending_in, step_of}
 use Rattle.pm_host.specs.Transcript.{Entry}
 use Rattle.pm_limits.specs.declared.fault.LimitFault.{LimitFault}
 use Rattle.pm_limits.specs.FaultWords.{limit_fault_number}
@@ -68,7 +68,7 @@ pub data GoesOn (stops : Bool) (old : Guarded) (was : FrameCourse) : Option Send
 -- one of the other kind.
 pub data Hears (old : Guarded) (was : FrameCourse) (entry : Entry) : Result (Unit {0}) Untold → Guarded → FrameCourse → Type 0 where
   heard : (stage : Stage) (new : Guarded) → old.host.stage ≡ Some stage → may_come old.host entry ≡ true
-      → new.host ≡ next old.host entry → new.limits ≡ old.limits → new.registers ≡ old.registers
+      → new.host ≡ host_next old.host entry → new.limits ≡ old.limits → new.registers ≡ old.registers
       → Hears old was entry (Ok tt) new
       (heard_by was old.host.setup.addr stage entry (surprises old.host stage entry) (step_of old.host entry))
   nothing : old.host.stage ≡ None → Hears old was entry (Err NothingSent) old was

@@ -37,15 +37,15 @@ is_ordering (Order cell word) (Writes at sent pass) = same_cell cell at && word 
 is_ordering (Order cell word) (Reads at sent pass) = same_cell cell at && word == sent
 is_ordering job stage = false
 
-abbrev pub is_job_at : Asked → Stage → Bool
-is_job_at job (Writes at sent pass) = is_ordering job (Writes at sent pass)
-is_job_at job (Reads at sent pass) = is_ordering job (Reads at sent pass)
-is_job_at job (Asks question tries) = is_asking job question
-is_job_at job (Sends command tries) = false
+abbrev pub is_asked_at : Asked → Stage → Bool
+is_asked_at job (Writes at sent pass) = is_ordering job (Writes at sent pass)
+is_asked_at job (Reads at sent pass) = is_ordering job (Reads at sent pass)
+is_asked_at job (Asks question tries) = is_asking job question
+is_asked_at job (Sends command tries) = false
 
 abbrev pub is_job_of : Option Asked → Stage → Bool
 is_job_of None stage = false
-is_job_of (Some job) stage = is_job_at job stage
+is_job_of (Some job) stage = is_asked_at job stage
 
 -- what is wrong with the bytes that came back for a request: none came, or F1 to F5
 abbrev pub bytes_fault : ℕ → Message → List ℕ → Option AnswerFault

@@ -1,7 +1,7 @@
 -- How a job begins at a host with limits, and which frame is sent once it stands somewhere. This project's own choice.
 use Rattle.std.specs.Prelude.{◌≡◌, Bool, Option, Some, None, Result, Ok, Err, IsSomeAnd}
 use Rattle.pm_host.specs.declared.stage.Stage.{Stage}
-use Rattle.pm_host.specs.Summary.{next, stage_message, step_of}
+use Rattle.pm_host.specs.Summary.{host_next, stage_message, step_of}
 use Rattle.pm_host.specs.Transcript.{Entry}
 use Rattle.pm_limits.specs.declared.fault.LimitFault.{LimitFault}
 use Rattle.pm_limits.specs.Guard.{Guarded}
@@ -33,7 +33,7 @@ GoesOnAt stops old was at new is = (sent : Option Sending) → IsSentAt new at s
 -- the host and the course hear what became of the frame of the stage at which the open job stands
 pub record TellsBoth (old : Guarded) (was : FrameCourse) (stage : Stage) (entry : Entry) (result : Heard) (new : Guarded) (is : FrameCourse) :
     Type 0 where
-  pub after : new.host ≡ next old.host entry
+  pub after : new.host ≡ host_next old.host entry
   pub limits : new.limits ≡ old.limits
   pub registers : new.registers ≡ old.registers
   pub step : result.step ≡ step_of old.host entry

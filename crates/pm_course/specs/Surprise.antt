@@ -21,16 +21,16 @@ cell_asked (Word cell) = Some cell
 cell_asked (Mode output) = None
 cell_asked (Coefficients output) = None
 
-abbrev pub cell_read : Stage → Option Cell
-cell_read (Writes cell word pass) = None
-cell_read (Reads cell word pass) = Some cell
-cell_read (Asks question tries) = cell_asked question
-cell_read (Sends command tries) = None
+abbrev pub cell_of_read : Stage → Option Cell
+cell_of_read (Writes cell word pass) = None
+cell_of_read (Reads cell word pass) = Some cell
+cell_of_read (Asks question tries) = cell_asked question
+cell_of_read (Sends command tries) = None
 
 -- the cell that is read couldn't hold the word of a payload
-abbrev pub is_new : Summary → Option Cell → List ℕ → Bool
-is_new s None payload = false
-is_new s (Some cell) payload = not (is_possible (word_in payload) (possible_at s cell))
+abbrev pub is_word_new : Summary → Option Cell → List ℕ → Bool
+is_word_new s None payload = false
+is_word_new s (Some cell) payload = not (is_possible (word_in payload) (possible_at s cell))
 
 -- a good answer has a word that the cell couldn't hold
 abbrev pub is_surprise : Summary → Cell → Option ℕ → Bool
@@ -44,7 +44,7 @@ surprises_at s (Some cell) bytes = is_surprise s cell (good_word s.setup.addr ce
 -- What became of the frame of a stage shows, by what the host knew before it was told, that the part restarted or was exchanged
 -- since it was read.
 abbrev pub surprises : Summary → Stage → Entry → Bool
-surprises s stage (Got bytes) = surprises_at s (cell_read stage) bytes
+surprises s stage (Got bytes) = surprises_at s (cell_of_read stage) bytes
 surprises s stage (Accepted job) = false
 surprises s stage (Finished acked) = false
 surprises s stage Restarted = false
@@ -56,4 +56,4 @@ is_done step = false
 
 -- the cell of a check couldn't hold the word that came back, if the answer is good
 abbrev pub looks_new : Summary → Cell → List ℕ → Bool
-looks_new s cell bytes = is_new s (Some cell) (answer_payload (cell_read_by cell) bytes)
+looks_new s cell bytes = is_word_new s (Some cell) (answer_payload (cell_read_by cell) bytes)

@@ -32,10 +32,10 @@ abbrev pub stays_wished : Wishes
 stays_wished = record { command = Stay; max = Stay; margin_high = Stay; margin_low = Stay; min = Stay }
 
 -- the word that is wanted as such, and the voltage
-abbrev pub word_in : Wish → Option ℕ
-word_in (Word word) = Some word
-word_in Stay = None
-word_in (Microvolts x) = None
+abbrev pub word_in_wish : Wish → Option ℕ
+word_in_wish (Word word) = Some word
+word_in_wish Stay = None
+word_in_wish (Microvolts x) = None
 
 abbrev pub has_voltage : Wish → Bool
 has_voltage (Microvolts x) = true
@@ -49,11 +49,11 @@ voltage_in (Word word) = pos 0
 
 abbrev pub words_in : Wishes → Wanted
 words_in w = record {
-  command = word_in w.command;
-  max = word_in w.max;
-  margin_high = word_in w.margin_high;
-  margin_low = word_in w.margin_low;
-  min = word_in w.min;
+  command = word_in_wish w.command;
+  max = word_in_wish w.max;
+  margin_high = word_in_wish w.margin_high;
+  margin_low = word_in_wish w.margin_low;
+  min = word_in_wish w.min;
 }
 
 abbrev pub voltages_in : Wishes → Voltages

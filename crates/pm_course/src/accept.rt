@@ -7,7 +7,7 @@ ghost use Rattle.pm_host.specs.Image.{held};
 ghost use Rattle.pm_limits.specs.Bounds.{outside_fault};
 ghost use Rattle.pm_limits.specs.Guard.{limits_at};
 ghost use Rattle.pm_rail.specs.Registers.{wants_of};
-ghost use Rattle.pm_course.specs.Accept.{anew as spec_anew, is_near as spec_is_near, is_near_aim, is_wished as spec_is_wished, limits_refuse, near_refusal, not_near as spec_not_near, taken_of as spec_taken_of, taking as spec_taking, Accepts, IsAim, IsFormed, IsMeaning, Takes, is_formed as spec_is_formed, meaning_by};
+ghost use Rattle.pm_course.specs.Accept.{anew as spec_anew, is_value_near as spec_is_near, is_near_aim, is_wished as spec_is_wished, limits_refuse, near_refusal, not_near as spec_not_near, taken_of as spec_taken_of, taking_word as spec_taking, Accepts, IsAim, IsFormed, IsMeaning, Takes, is_formed as spec_is_formed, meaning_by};
 ghost use Rattle.pm_course.specs.Wishes.{refused_at, voltage_of};
 
 use crate::accept_fault::AcceptFault;

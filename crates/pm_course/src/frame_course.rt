@@ -169,7 +169,7 @@ impl FrameCourse {
     // It has ended so.
     fn ends(&mut self, end: CourseEnd) -> CourseNext
         ensures next { result ≡ CourseNext.Ended end }
-        ensures after { self.new ≡ (specs.ends self.old end).after }
+        ensures after { self.new ≡ (specs.course_ends self.old end).after }
     {
         self.end = Some(end);
         CourseNext::Ended(end)
@@ -291,7 +291,7 @@ impl FrameCourse {
 
     // It goes on by the way once a job was asked for, where that named another or the same.
     fn ask_for(&mut self, after: &Course, named: Job, job: Job)
-        ensures { self.new ≡ (specs.asks self.old (spec_asking_for self.old.course after.now named job) job).after }
+        ensures { self.new ≡ (specs.course_asks self.old (spec_asking_for self.old.course after.now named job) job).after }
     {
         let plan = self.course.survey.plan;
         let was_ordered = match named {

@@ -2,7 +2,7 @@
 
 ghost use Rattle.std.specs.Prelude.{◌≡◌, ◌<◌, ◌&&◌, true, Some, IfSome};
 ghost use Rattle.pm_table.specs.Address.{IsAddress};
-ghost use Rattle.pm_host.specs.Sound.{HasWord};
+ghost use Rattle.pm_host.specs.Sound.{AcceptsWrittenWord};
 ghost use Rattle.pm_host.specs.Summary.{stage_message};
 ghost use Rattle.pm_host.specs.Told.{entry_told};
 ghost use Rattle.pm_host.specs.Transcript.{Finished, Got};
@@ -35,7 +35,7 @@ impl Sending {
     // What a stage sends to a device.
     fn of(address: u8, stage: Stage) -> Sending
         requires address { IsAddress address }
-        requires word { HasWord stage }
+        requires word { AcceptsWrittenWord stage }
         ensures { IsSendingOf address (stage_message stage) result }
     {
         let message = stage.message();

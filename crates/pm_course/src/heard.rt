@@ -4,7 +4,7 @@ ghost use Rattle.std.specs.Prelude.{◌≡◌, true, Some, option_map};
 ghost use Rattle.pm_table.specs.Address.{IsAddress};
 ghost use Rattle.pm_table.specs.Cell.{same_cell};
 ghost use Rattle.pm_frame.specs.Layout.{is_read_message};
-ghost use Rattle.pm_host.specs.Sound.{HasWord};
+ghost use Rattle.pm_host.specs.Sound.{AcceptsWrittenWord};
 ghost use Rattle.pm_host.specs.Summary.{stage_message};
 ghost use Rattle.pm_host.specs.Told.{entry_told, is_awaited};
 ghost use Rattle.pm_host.specs.Transcript.{Got};
@@ -24,7 +24,7 @@ impl FrameCourse {
     /// restarted or was exchanged, so the format is learned anew before anything else is asked for.
     pub fn heard(&mut self, address: u8, stage: Stage, told: Told<'_>, surprised: bool, step: Step)
         requires address { IsAddress address }
-        requires word { HasWord stage }
+        requires word { AcceptsWrittenWord stage }
         requires awaited { is_awaited stage told ≡ true }
         ensures { self.new ≡ heard_by self.old address stage (entry_told told.entry) surprised step }
     {
@@ -42,7 +42,7 @@ impl FrameCourse {
         step: Step,
     )
         requires address { IsAddress address }
-        requires word { HasWord stage }
+        requires word { AcceptsWrittenWord stage }
         requires awaited { is_awaited stage told ≡ true }
         requires fault { noticed.fault ≡ spec_entry_fault address stage (entry_told told) }
         ensures { self.new ≡ heard_by self.old address stage (entry_told told.entry) noticed.surprised step }
@@ -127,7 +127,7 @@ impl FrameCourse {
 // What was wrong with what became of a frame.
 fn entry_fault(address: u8, stage: Stage, told: Told<'_>) -> Option<AnswerFault>
     requires address { IsAddress address }
-    requires word { HasWord stage }
+    requires word { AcceptsWrittenWord stage }
     requires awaited { is_awaited stage told ≡ true }
     ensures { result ≡ spec_entry_fault address stage (entry_told told.entry) }
 {
@@ -141,7 +141,7 @@ fn entry_fault(address: u8, stage: Stage, told: Told<'_>) -> Option<AnswerFault>
 /// What is wrong with the bytes that came back for a request.
 pub(crate) fn bytes_fault(address: u8, stage: Stage, bytes: &[u8]) -> Option<AnswerFault>
     requires address { IsAddress address }
-    requires word { HasWord stage }
+    requires word { AcceptsWrittenWord stage }
     requires read { is_read_message (stage_message stage) ≡ true }
     ensures { result ≡ spec_bytes_fault address (stage_message stage) bytes.now }
 {
@@ -158,7 +158,7 @@ pub(crate) fn bytes_fault(address: u8, stage: Stage, bytes: &[u8]) -> Option<Ans
 #[tactic(auto, unfolding(pm_host::specs::Answers::good_payload))]
 fn mode_told(address: u8, stage: Stage, told: Told<'_>, end: JobEnd) -> Option<u8>
     requires address { IsAddress address }
-    requires word { HasWord stage }
+    requires word { AcceptsWrittenWord stage }
     requires awaited { is_awaited stage told ≡ true }
     ensures { result ≡ spec_mode_told address stage (entry_told told.entry) end }
 {

@@ -3,7 +3,7 @@
 ghost use Rattle.std.specs.Prelude.{◌≡◌, true, Some, IfOk};
 ghost use Rattle.pm_host.specs.Image.{held};
 ghost use Rattle.pm_host.specs.Sound.{IsSound};
-ghost use Rattle.pm_host.specs.Summary.{next, step_of};
+ghost use Rattle.pm_host.specs.Summary.{host_next, step_of};
 ghost use Rattle.pm_host.specs.Told.{entry_told, is_awaited};
 ghost use Rattle.pm_limits.specs.Guard.{Guarded, LetsBegin, limits_at};
 ghost use Rattle.pm_course.specs.Hosted.{begun_as};
@@ -65,7 +65,7 @@ pub trait Hosted {
         requires stage { (guarded self.old).host.stage ≡ Some stage }
         requires awaited { is_awaited stage told ≡ true }
         ensures there { is_there self.new }
-        ensures after { (guarded self.new).host ≡ next (guarded self.old).host (entry_told told.entry) }
+        ensures after { (guarded self.new).host ≡ host_next (guarded self.old).host (entry_told told.entry) }
         ensures limits { (guarded self.new).limits ≡ (guarded self.old).limits }
         ensures registers { (guarded self.new).registers ≡ (guarded self.old).registers }
         ensures step { result.step ≡ step_of (guarded self.old).host (entry_told told.entry) }

@@ -11,7 +11,7 @@ ghost use Rattle.pm_host.specs.Told.{entry_told, is_awaited};
 ghost use Rattle.pm_frame.specs.Layout.{is_read_message};
 ghost use Rattle.pm_host.specs.Summary.{stage_message};
 ghost use Rattle.pm_course.specs.Heard.{bytes_fault, entry_fault};
-ghost use Rattle.pm_course.specs.Surprise.{cell_read as spec_cell_read, is_new as is_new_in, looks_new as spec_looks_new, surprises as spec_surprises, surprises_at};
+ghost use Rattle.pm_course.specs.Surprise.{cell_of_read as spec_cell_read, is_word_new as is_new_in, looks_new as spec_looks_new, surprises as spec_surprises, surprises_at};
 ghost use Rattle.pm_frame.specs.View.{answer_payload};
 ghost use Rattle.pm_host.specs.Messages.{cell_read as message_of};
 

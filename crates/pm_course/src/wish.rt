@@ -1,7 +1,7 @@
 //! What is wanted of each register: nothing, a word or a voltage.
 
 ghost use Rattle.std.specs.Prelude.{◌≡◌};
-ghost use Rattle.pm_course.specs.Wishes.{has_voltage, stays_wished, voltage_in, voltages_in, word_in, words_in};
+ghost use Rattle.pm_course.specs.Wishes.{has_voltage, stays_wished, voltage_in, voltages_in, word_in_wish, words_in};
 
 use crate::voltages::Voltages;
 use pm_rail::Wanted;
@@ -36,7 +36,7 @@ pub struct Wishes {
 impl Wish {
     // The word that is wanted as such.
     fn word(self) -> Option<u16>
-        ensures { result ≡ word_in self }
+        ensures { result ≡ word_in_wish self }
     {
         match self {
             Wish::Word(word) => Some(word),

@@ -50,21 +50,22 @@ use Rattle.pm_world.specs.State.{asked, share_of}
 use Rattle.pm_world.specs.Surveys.{IsOneValue as WorldOne, MissingUnread as WorldUnread}
 use Rattle.pm_world.specs.declared.event.Back.TheVariants as back
 use Rattle.pm_world.specs.declared.event.Event.TheVariants.{Deliver, Exchange, Finish}
-use Rattle.pm_part_laws.specs.OwnWords.{commands}
-use Rattle.pm_part_laws.specs.Alike.{IsLike, LivesAlike, renewed, SameSettingsLiveAlike}
+use Rattle.pm_part_laws.specs.OwnWords.{commands_beside}
+use Rattle.pm_part_laws.specs.Alike.{IsLike, LivesAlike, with_host_restart, SameSettingsLiveAlike}
 use Rattle.pm_part_laws.specs.Happenings.{EachAsks, Happening, Happens, Hears, MayAllHappen, beside}
 use Rattle.pm_part_laws.specs.Lemmas.Narrow.{asked-at, asked-like, at, at-since, begins-like, commands-at, config, earlier-may}
 use Rattle.pm_part_laws.specs.Lemmas.Narrow.{later-restarts, likely, missing-at, read-at, shape-at, since, since-append, read-beside}
 use Rattle.pm_part_laws.specs.Lemmas.Narrow.{read-like, since-at}
-use Rattle.pm_part_laws.specs.Surveys.{held_at, IsOneValue}
+use Rattle.pm_part_laws.specs.Surveys.{held_at_beside, IsOneValue}
 use Rattle.pm_course_laws.specs.FrameWays.{FrameCoursesGoTheirWay}
 use Rattle.pm_course_laws.specs.Between.{FrameCoursesKeepBetween, GoesOnBeside}
-use Rattle.pm_course_laws.specs.Chains.{EndsBy, FitsPart, IsAskedFor, IsSwitched, Pair, byte_tries, held_fault, tries_for, words_of}
+use Rattle.pm_course_laws.specs.Chains.{EndsBy, FitsPart, IsAskedFor, IsSwitched, Pair, byte_tries, held_fault, tries_for, output_words_of}
 use Rattle.pm_course_laws.specs.FrameLives as frame
 use Rattle.pm_course_laws.specs.FrameLives.{BeginsFrames, ChecksHad, FrameCoursesHoldInLives, IsFrameCourse, IsHad, MaySay, goes_on}
 use Rattle.pm_course_laws.specs.FramesBeside.{BeginsBeside, FrameCoursesHoldBeside, HandedBeside, IsFrameCourseBeside, KeepsByteBeside}
 use Rattle.pm_course_laws.specs.FramesBeside.{KeepsWords, asks as frames_beside_asks, begins as frames_beside_begins, begins_job, besides}
-use Rattle.pm_course_laws.specs.FramesBeside.{goal_at, hears, looks as frames_beside_looks, over, power_goal_at, refused, stays}
+use Rattle.pm_course_laws.specs.FramesBeside.{goal_at_beside, hears, looks as frames_beside_looks, over, power_goal_at_beside, refused}
+use Rattle.pm_course_laws.specs.FramesBeside.{stays}
 use Rattle.pm_course_laws.specs.Progress as life_of
 use Rattle.pm_course_laws.specs.Progress.{FrameCoursesGetThere, GetsRead, GetsSwitched, GetsThere, IsUndisturbed, pair_at}
 use Rattle.pm_course_laws.specs.ProgressBeside.{ReadsStandBeside, FrameCoursesGetThereBeside, IsUndisturbedBeside}
@@ -93,8 +94,9 @@ module _ (held : Held) (passes : ℕ) (alike : LivesAlike held passes) (before :
 
   -- the life at a later moment
   pub like : (later : List Happening) → MayAllHappen held passes (later ++ before) →
-      IsLike c' passes (later-events later ++ past) held (later ++ before) (life c' passes (renewed alike.earlier)).entries
-  like later may = subst (λ (l : List Event). IsLike c' passes l held (later ++ before) (life c' passes (renewed alike.earlier)).entries)
+      IsLike c' passes (later-events later ++ past) held (later ++ before) (life c' passes (with_host_restart alike.earlier)).entries
+  like later may =
+      subst (λ (l : List Event). IsLike c' passes l held (later ++ before) (life c' passes (with_host_restart alike.earlier)).entries)
       (at-since held passes alike later before) (alike.like (later ++ before) may)
 
   pub host-is : (later : List Happening) → MayAllHappen held passes (later ++ before) →
@@ -173,11 +175,11 @@ module _ (held : Held) (passes : ℕ) (alike : LivesAlike held passes) (before :
 
   -- the words of an output, and what it commands
   held-is : (later : List Happening) → MayAllHappen held passes (later ++ before) → (output : ℕ) →
-      world_held c' passes (later-events later ++ past) output ≡ held_at held passes (later ++ before) output
+      world_held c' passes (later-events later ++ past) output ≡ held_at_beside held passes (later ++ before) output
   held-is later may output = ap (registers-in output) (like later may).words
 
   pub commands-is : (later : List Happening) → MayAllHappen held passes (later ++ before) → (output : ℕ) →
-      world_commands c' passes (later-events later ++ past) output ≡ commands held passes (later ++ before) output
+      world_commands c' passes (later-events later ++ past) output ≡ commands_beside held passes (later ++ before) output
   commands-is later may output = ap (λ (l : List Event). world_commands c' passes l output) (sym (at-since held passes alike later before))
       ∙ commands-at held passes alike (later ++ before) may output
 
@@ -208,30 +210,32 @@ module _ (held : Held) (passes : ℕ) (alike : LivesAlike held passes) (before :
     pub step-so : (output : ℕ) (goal goal' : Ratio) → goal ≡ goal' →
         IsStep goal (world_commands c' passes (later-events older ++ past) output)
         (world_commands c' passes ((newer-events ++ later-events older) ++ past) output) →
-        IsStep goal' (commands held passes (older ++ before) output) (commands held passes ((newer ++ older) ++ before) output)
+        IsStep goal' (commands_beside held passes (older ++ before) output)
+        (commands_beside held passes ((newer ++ older) ++ before) output)
     step-so output goal goal' same step =
-        subst (λ (v : Ratio). IsStep goal' v (commands held passes ((newer ++ older) ++ before) output)) (commands-is older may-older output)
+        subst (λ (v : Ratio). IsStep goal' v (commands_beside held passes ((newer ++ older) ++ before) output)) (commands-is older may-older output)
         (subst (λ (v : Ratio). IsStep goal' (world_commands c' passes (later-events older ++ past) output) v)
         (ap (λ (l : List Event). world_commands c' passes l output) newer-is ∙ commands-is (newer ++ older) may-newer output)
         (subst (λ (v : Ratio). IsStep v (world_commands c' passes (later-events older ++ past) output)
         (world_commands c' passes ((newer-events ++ later-events older) ++ past) output)) same step))
 
     held-newer : (output : ℕ) → world_held c' passes ((newer-events ++ later-events older) ++ past) output
-        ≡ held_at held passes ((newer ++ older) ++ before) output
+        ≡ held_at_beside held passes ((newer ++ older) ++ before) output
     held-newer output = ap (λ (l : List Event). world_held c' passes l output) newer-is ∙ held-is (newer ++ older) may-newer output
 
-    held-older : (output : ℕ) → world_held c' passes (later-events older ++ past) output ≡ held_at held passes (older ++ before) output
+    held-older : (output : ℕ) → world_held c' passes (later-events older ++ past) output
+        ≡ held_at_beside held passes (older ++ before) output
     held-older output = held-is older may-older output
 
   -- what is wanted of an output, and what it would command with a byte of OPERATION
   pub goal-is : (output : ℕ) (wanted : Wanted) → MayAllHappen held passes before →
-      world_goal c' passes output wanted past ≡ goal_at held passes output wanted before
+      world_goal c' passes output wanted past ≡ goal_at_beside held passes output wanted before
   goal-is output wanted may = ap₂ (λ (s : Shape) (h : rail.Held). commands_by (shape_value s) (goal_of h (wants_of wanted)))
       (shape-at held passes alike output)
       (ap (registers-in output) (alike.like before may).words)
 
   power-is : (output byte : ℕ) → MayAllHappen held passes before →
-      world_power c' passes output byte past ≡ power_goal_at held passes output byte before
+      world_power c' passes output byte past ≡ power_goal_at_beside held passes output byte before
   power-is output byte may = ap₂ (λ (s : Shape) (h : rail.Held). commands_by (shape_value s) (put h Operation byte))
       (shape-at held passes alike output)
       (ap (registers-in output) (alike.like before may).words)
@@ -610,7 +614,7 @@ beside_registers-in output words register = word_at words (Out output register)
 value-is : {one other : Pair} → AreAlike one other → (output : ℕ) → value_for one.held.config output ≡ value_for other.held.config output
 value-is alike output = ap (λ (s : Shape). shape_value s) (alike.shapes output)
 
-words-is : {one other : Pair} → AreAlike one other → (output : ℕ) → words_of one.held output ≡ words_of other.held output
+words-is : {one other : Pair} → AreAlike one other → (output : ℕ) → output_words_of one.held output ≡ output_words_of other.held output
 words-is alike output = ap (beside_registers-in output) alike.words
 
 -- what decides an end is the same

@@ -28,14 +28,16 @@ use Rattle.pm_rail.specs.{Laws.CoursesEnd, Lemmas.AskedFree.asked-free, Lemmas.K
 use Rattle.pm_rail.specs.{declared.course.Course.Course, declared.course.Differing.Differing, declared.fault.PlanFault.TheVariants.Busy}
 use Rattle.pm_rail.specs.{declared.next.Next.Next, declared.survey.Reads.Reads, declared.survey.Survey.Survey}
 use Rattle.pm_rail.specs.{declared.wanted.Wanted.Wanted}
-use Rattle.pm_rail.specs.Course.{after_by, going, going_to, naming, next_by, order_by, ordering, reading, reading_for, renewed, says}
+use Rattle.pm_rail.specs.Course.{after_by, going, going_to, naming, next_by, order_by, ordering, survey_or_order, reading_for, renewed}
+use Rattle.pm_rail.specs.Course.{says}
 use Rattle.pm_rail.specs.Course.{survey_course_of, told_of}
 use Rattle.pm_rail.specs.Known.{cells_of, known_at, known_of, known_word}
-use Rattle.pm_rail.specs.Lemmas.Places.{below, cell_of, each-place, has_at, has-and, is-known, is-only, more as one-more, once, others-stay}
+use Rattle.pm_rail.specs.Lemmas.Places.{below, cell_of, each-place, has_at, has-and, is-known, is-only, one_place_more as one-more}
+use Rattle.pm_rail.specs.Lemmas.Places.{each_place_is_once, others-stay}
 use Rattle.pm_rail.specs.Lemmas.Places.{same-itself, same_place, still-whole, total, none-read}
 use Rattle.pm_rail.specs.Lemmas.Says.{asks-due, renewed-none}
 use Rattle.pm_rail.specs.Lemmas.Steps.{first-of, second-of}
-use Rattle.pm_rail.specs.Lemmas.Surveyed.{found, has-none}
+use Rattle.pm_rail.specs.Lemmas.Surveyed.{found_passes_test, has-none}
 use Rattle.pm_rail.specs.Orders.{is_needed, missing_fault, plan_of}
 use Rattle.pm_rail.specs.Registers.{Held, Wants, nothing, wants_of}
 use Rattle.pm_rail.specs.Survey.{and_read, due_by, due_job, has_read, is_unread, is_unsure, wanted_in, nothing_read, is_surveyed, next_job}
@@ -43,7 +45,8 @@ use Rattle.pm_rail.specs.Survey.{survey_of}
 use Rattle.pm_rail.specs.declared.apply_end.ApplyEnd.TheVariants.{Reached, Stopped}
 use Rattle.pm_rail.specs.declared.apply_end.StopCause.TheVariants.{Refused, Spent}
 use Rattle.pm_rail.specs.declared.next.Next.TheVariants as next
-use Rattle.pm_course_laws.specs.Chains.{HasLife, IsChecked, IsLearned, Pair, Step, is_surprised, words_of, Chain, SurveyEnds, forgotten}
+use Rattle.pm_course_laws.specs.Chains.{HasLife, IsChecked, IsLearned, Pair, Step, is_surprised, output_words_of, Chain, SurveyEnds}
+use Rattle.pm_course_laws.specs.Chains.{forgotten}
 use Rattle.pm_course_laws.specs.Chains.{no_job, one_more}
 use Rattle.pm_course_laws.proofs.ChainedSurveys.{At, Calm, Knows, LawsOfSurveys, accepts, asks_in, in-range, is_learned, none-of, none-some}
 use Rattle.pm_course_laws.proofs.ChainedSurveys.{only-possible, order-only, order-others, order-whole, other-place, others-any, settled}
@@ -149,7 +152,7 @@ module _ (part : PartRegisters) (v : Survey) (s : Summary) (shape : Shape) (byte
   }
     where
       test : is_unread part v.read known (wants_of nothing) r ≡ true
-      test = found (is_unread part v.read known (wants_of nothing)) registers r is
+      test = found_passes_test (is_unread part v.read known (wants_of nothing)) registers r is
 
       needed : is_needed known (wants_of nothing) r ≡ true
       needed = first-of (is_needed known (wants_of nothing) r) _ (second-of (has_register part r) _ test)
@@ -188,7 +191,7 @@ module _ (part : PartRegisters) (v : Survey) (s : Summary) (shape : Shape) (byte
   }
     where
       test : is_unsure part (cells_of part shape s) v.output known (wants_of nothing) r ≡ true
-      test = found (is_unsure part (cells_of part shape s) v.output known (wants_of nothing)) registers r is
+      test = found_passes_test (is_unsure part (cells_of part shape s) v.output known (wants_of nothing)) registers r is
 
       needed : is_needed known (wants_of nothing) r ≡ true
       needed = first-of (is_needed known (wants_of nothing) r) _ (second-of (has_register part r) _ test)
@@ -483,7 +486,7 @@ module _ (apart : CellsAreToldApart) (law : CellsHavePlaces) (output : ℕ) (sma
         let few = at-most-one (is_stray now_known output now_read) in
         let room = to-spare in
         let rest = others-left in
-        let single = once p in
+        let single = each_place_is_once p in
         let most-of = few-set in
         let three = one-more (λ q. set q && not (same_place p q)) set p
         (λ q two. sym (ap (λ (b : Bool). set q && not b) two ∙ and-true (set q)))
@@ -533,7 +536,7 @@ pub record Here (v : Survey) (guard : Guarded) (h : Converter) (spare most : ℕ
 
 -- the byte of OPERATION that is held
 abbrev pub byte_of : Survey → Converter → ℕ
-byte_of v h = words_of h v.output Operation
+byte_of v h = output_words_of h v.output Operation
 
 -- it is a survey of which no answer is bounded otherwise
 pub as-at : (v : Survey) (guard : Guarded) (h : Converter) (spare most : ℕ) → Here v guard h spare most → At v guard h 7
@@ -795,8 +798,8 @@ size-so false chosen target =
     (turns_by (selected_register target) p) h) in
     let two = either (same_place (Some (selected_register target))) (turns_by (selected_register target)) (same_place None)
     (λ p h. or_cases (same_place (Some (selected_register target)) p) (same_place None p) h) in
-    let first = once (Some (selected_register target)) in
-    let second = once None in
+    let first = each_place_is_once (Some (selected_register target)) in
+    let second = each_place_is_once None in
     let all = four chosen in omega arith
 
 -- what matters with the wanted byte is read before the order
@@ -894,13 +897,13 @@ chain-few ends begun first course new n (one_more before job end middle last m a
     omega arith
 
 module _ (laws : LawsOfSurveys) (output : ℕ) (old : Pair) (extra : ℕ)
-    (there : has_register old.guard.registers (selected_register (words_of old.held output Operation)) ≡ true) where
+    (there : has_register old.guard.registers (selected_register (output_words_of old.held output Operation)) ≡ true) where
   -- the cells that decide what the output commands
   abbrev deciding : Option Reg → Bool
-  deciding = matters (selected_register (words_of old.held output Operation))
+  deciding = matters (selected_register (output_words_of old.held output Operation))
 
   few : total deciding ≤ 4
-  few = let all = four (words_of old.held output Operation) in omega arith
+  few = let all = four (output_words_of old.held output Operation) in omega arith
 
   -- how far the survey is
   record OnReads (course : Course) (d : Pair) : Type 0 where
@@ -918,7 +921,7 @@ module _ (laws : LawsOfSurveys) (output : ℕ) (old : Pair) (extra : ℕ)
   within : (v : Survey) (d : Pair) → v.output ≡ output → d.held.words ≡ old.held.words → (p : Option Reg) →
       matters (selected_register (byte_of v d.held)) p ≡ true → deciding p ≡ true
   within v d own words p h = subst (λ (w : Words). matters (selected_register (word_at w (Out output Operation))) p ≡ true) words
-      (subst (λ (o : ℕ). matters (selected_register (words_of d.held o Operation)) p ≡ true) own h)
+      (subst (λ (o : ℕ). matters (selected_register (output_words_of d.held o Operation)) p ≡ true) own h)
 
   -- ---- What it says ----
 
@@ -934,7 +937,7 @@ module _ (laws : LawsOfSurveys) (output : ℕ) (old : Pair) (extra : ℕ)
 
   says-reads : (course : Course) (d : Pair) → OnReads course d →
       says d.guard.registers (lim course d) d.guard.host course
-      ≡ reading d.guard.registers (lim course d) d.guard.host course (due course d)
+      ≡ survey_or_order d.guard.registers (lim course d) d.guard.host course (due course d)
   says-reads course d on =
       ap (λ (b : Bool). if b then next.Ended (Stopped (Refused Busy))
       else going d.guard.registers (lim course d) d.guard.host course course.twice) on.here.idle
@@ -944,12 +947,12 @@ module _ (laws : LawsOfSurveys) (output : ℕ) (old : Pair) (extra : ℕ)
       (missing_fault d.guard.registers (wants_of (wanted_in p)))) on.here.none))
 
   next-reads : (course : Course) (d : Pair) → OnReads course d →
-      next_by d.guard course ≡ reading d.guard.registers (lim course d) d.guard.host course (due course d)
+      next_by d.guard course ≡ survey_or_order d.guard.registers (lim course d) d.guard.host course (due course d)
   next-reads course d on = ap (λ (c : Course). says d.guard.registers (lim course d) d.guard.host c) (same-now course d on)
       ∙ says-reads course d on
 
   done-reads : (course : Course) (d : Pair) → OnReads course d → due course d ≡ None →
-      reading d.guard.registers (lim course d) d.guard.host course None ≡ next.Ended Reached
+      survey_or_order d.guard.registers (lim course d) d.guard.host course None ≡ next.Ended Reached
   done-reads course d on free =
       ap (λ (b : Option ℕ). ordering course (order_by d.guard.registers (lim course d) d.guard.host course.survey b)) on.byte_is
       ∙ ap (λ (b : Bool). ordering course (if b then Ok None else plan_of d.guard.registers d.guard.host (lim course d)
@@ -959,7 +962,7 @@ module _ (laws : LawsOfSurveys) (output : ℕ) (old : Pair) (extra : ℕ)
       surveyed = ap₂ (λ (o : Option Job) (b : Bool). is_none o && not b) free
           (unstuck d.guard d.held course.survey 7 (as-at course.survey d.guard d.held on.spare 4 on.here) nothing
           (ap wanted_in on.here.none) free refl
-          (ap₂ (λ (p : PartRegisters) (o : ℕ). has_register p (selected_register (words_of d.held o Operation))) on.part_is on.own
+          (ap₂ (λ (p : PartRegisters) (o : ℕ). has_register p (selected_register (output_words_of d.held o Operation))) on.part_is on.own
           ∙ (ap (λ (w : Words). has_register old.guard.registers (selected_register (word_at w (Out output Operation)))) on.words ∙ there)))
 
   -- a job that it names is due, and a try is left for it
@@ -967,7 +970,7 @@ module _ (laws : LawsOfSurveys) (output : ℕ) (old : Pair) (extra : ℕ)
       ((course.survey.left == 0) ≡ false) × (due course d ≡ Some job)
   named course d job on names = go (due course d) refl (sym (next-reads course d on) ∙ names) where
     go : (o : Option Job) → due course d ≡ o →
-        reading d.guard.registers (lim course d) d.guard.host course o ≡ next.Job job →
+        survey_or_order d.guard.registers (lim course d) d.guard.host course o ≡ next.Job job →
         ((course.survey.left == 0) ≡ false) × (due course d ≡ Some job)
     go None e h = let bad = sym (done-reads course d on e) ∙ h in cc
     go (Some j) e h = by (course.survey.left == 0) refl h where
@@ -1089,7 +1092,7 @@ module _ (laws : LawsOfSurveys) (output : ℕ) (old : Pair) (extra : ℕ)
     none-zero : (n : ℕ) → (n == 0) ≡ true → n ≤ extra
     none-zero n h = grind (arith, nat_tests)
 
-    go : (o : Option Job) → due course d ≡ o → reading d.guard.registers (lim course d) d.guard.host course o ≡ next.Ended end →
+    go : (o : Option Job) → due course d ≡ o → survey_or_order d.guard.registers (lim course d) d.guard.host course o ≡ next.Ended end →
         end ≡ Reached
     go None e h = let same : Reached ≡ end = end-same (sym (done-reads course d on e) ∙ h) in sym same where
       end-same : ◌≡◌ {A = Next} (next.Ended Reached) (next.Ended end) → Reached ≡ end
@@ -1118,7 +1121,7 @@ module _ (laws : LawsOfSurveys) (output : ℕ) (old : Pair) (extra : ℕ)
 -- ten tries are enough: for two surveys of the format and four registers, since at most one answer of all surprises
 pub survey-ends : LawsOfSurveys → CoursesEnd → (output tries n : ℕ) (old new : Pair) (course : Course) →
     HasLife old.guard.host old.held → is_busy old.guard.host ≡ false → output < old.guard.host.setup.outputs →
-    has_register old.guard.registers (selected_register (words_of old.held output Operation)) ≡ true → 10 ≤ tries →
+    has_register old.guard.registers (selected_register (output_words_of old.held output Operation)) ≡ true → 10 ≤ tries →
     Chain (survey_course_of output tries) old course new n → SurveyEnds output 10 n old new course
 survey-ends laws ends output tries n old new course has idle here there many chain = record {
   few = let left = left-over laws output old (tries - 10) there course new last in let taken = taken-few in omega arith;
@@ -1131,7 +1134,7 @@ survey-ends laws ends output tries n old new course has idle here there many cha
   once = last.once;
   idle = last.here.idle;
   words = last.words;
-  may = λ register read. subst (λ (o : ℕ). is_possible (words_of new.held o register)
+  may = λ register read. subst (λ (o : ℕ). is_possible (output_words_of new.held o register)
       (possible_at new.guard.host (Out o register)) ≡ true) last.own (last.here.tells.may (Some register) read);
   ends = λ end is. ends-on laws output old (tries - 10) there course new end last is;
 }

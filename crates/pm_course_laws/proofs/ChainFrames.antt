@@ -38,7 +38,7 @@ use Rattle.pm_world.specs.Honest.{IsSpelled}
 use Rattle.pm_world.specs.Life.{life, now, state_of}
 use Rattle.pm_world.specs.Lived.{IsLived}
 use Rattle.pm_world.specs.State.{State}
-use Rattle.pm_course_laws.specs.Chains.{Chain, Pair, Step, forgotten, is_surprised, no_job, one_more, words_of}
+use Rattle.pm_course_laws.specs.Chains.{Chain, Pair, Step, forgotten, is_surprised, no_job, one_more, output_words_of}
 use Rattle.pm_course_laws.specs.Progress.{IsUndisturbed, pair_at}
 use Rattle.pm_course_laws.proofs.ChainedSurveys.{sole-taken}
 use Rattle.pm_course_laws.proofs.CourseFrames as frames
@@ -173,7 +173,7 @@ module _ (laws : Given) (jobs-laws : jobs.Given) (apart : CellsAreToldApart) (or
 
   -- OPERATION isn't known to hold a byte that its cell doesn't take
   pub no-source : (c : FrameCourse) (later : List Event) → IsLived config passes (later ++ before) → Same c → begun.course.byte ≡ None →
-      (has_read c.course.survey.read Operation ≡ true → is_possible (words_of (d later).held begun.course.survey.output Operation)
+      (has_read c.course.survey.read Operation ≡ true → is_possible (output_words_of (d later).held begun.course.survey.output Operation)
       (possible_at (at later).host (Out begun.course.survey.output Operation)) ≡ true) →
       source_of (at later).host c.course c.course.byte ≡ None
   no-source c later lived same none may = ap (λ (b : Option ℕ). source_of (at later).host c.course b) (same.byte ∙ none)

@@ -35,7 +35,7 @@ use Rattle.pm_host.specs.declared.job.JobEnd.{JobEnd}
 use Rattle.pm_host.specs.Refusals.{is_busy}
 use Rattle.pm_host.specs.Transcript as accepted
 use Rattle.pm_limits.specs.Guard.{Guarded}
-use Rattle.pm_course_laws.specs.Chains.{HasLife, Pair, Step, is_surprised, words_of}
+use Rattle.pm_course_laws.specs.Chains.{HasLife, Pair, Step, is_surprised, output_words_of}
 use Rattle.pm_course_laws.proofs.ChainedSurveys.{known-is, read-is, sole-taken, true-of, unstuck}
 use Rattle.std.specs.Prelude.{◌≢◌, Err, Ok, Result}
 use Rattle.pm_table.specs.declared.cell.Cell.{Cell}
@@ -56,7 +56,7 @@ use Rattle.pm_rail.specs.declared.fault.PlanFault.{PlanFault}
 use Rattle.pm_rail.specs.declared.fault.PlanFault.TheVariants.{Busy, NotKnown}
 use Rattle.pm_rail.specs.declared.next.Next.TheVariants.{Ended}
 use Rattle.pm_rail.specs.declared.orders.PlanOrder.{PlanOrder}
-use Rattle.pm_rail.specs.Course.{going, going_to, is_carried_out, is_operation_known, once_more, order_by, order_next, power_next, reading, renewed, says, turning_off}
+use Rattle.pm_rail.specs.Course.{going, going_to, is_carried_out, is_operation_known, once_more, order_by, order_next, power_next, survey_or_order, renewed, says, turning_off}
 use Rattle.pm_rail.specs.Survey.{is_surveyed}
 use Rattle.pm_course_laws.specs.Chains.{forgotten}
 use Rattle.std.proofs.lemmas.Bool.{eq-eqb}
@@ -157,7 +157,7 @@ free-order g output byte word idle here has on known none =
         ∙ ap (λ (b : Bool). first (None ∷ rule false host.BadWord ∷ rule (not b) host.TooUncertain ∷ [])) room
 
 -- an output whose other words stay commands what they say with this byte
-switched-words : (output byte : ℕ) (old new : Pair) → words_of new.held output Operation ≡ byte → new.held.config ≡ old.held.config →
+switched-words : (output byte : ℕ) (old new : Pair) → output_words_of new.held output Operation ≡ byte → new.held.config ≡ old.held.config →
     ((other : Cell) → other ≢ Out output Operation → IsCell old.guard.host.setup.outputs other →
     word_at new.held.words other ≡ word_at old.held.words other) → output < old.guard.host.setup.outputs → IsSwitched output byte old new
 unfolding commanded selected
@@ -169,11 +169,11 @@ switched-words output byte old new takes made others here = record {
 }
   where
     each : (q : Reg) (b : Bool) → same_register Operation q ≡ b →
-        words_of new.held output q ≡ (if b then byte else words_of old.held output q)
+        output_words_of new.held output q ≡ (if b then byte else output_words_of old.held output q)
     each q true e = ap (λ (o : Option Reg). word_of o) (other-place (Some Operation) (Some q) e) ∙ takes where
       word_of : Option Reg → ℕ
       word_of None = 0
-      word_of (Some r) = words_of new.held output r
+      word_of (Some r) = output_words_of new.held output r
     each q false e = others (Out output q) (λ same. differs q e same) here where
       differs : (r : Reg) → same_register Operation r ≡ false → Out output r ≡ Out output Operation → ⊥
       differs r f same = let bad = sym f ∙ ap of_cell same in cc where
@@ -188,7 +188,7 @@ module _ (laws : LawsOfSurveys) (output byte : ℕ) (turns_on : has_on byte ≡ 
   target = selected_register byte
 
   abbrev held_byte : Pair → ℕ
-  held_byte d = words_of d.held output Operation
+  held_byte d = output_words_of d.held output Operation
 
   abbrev set_for : ℕ → Option Reg → Bool
   set_for word = cells_for (word == byte) (selected_register word) target
@@ -259,7 +259,7 @@ module _ (laws : LawsOfSurveys) (output byte : ℕ) (turns_on : has_on byte ≡ 
   own-within : (v : Survey) (d : Pair) → v.output ≡ output → (p : Option Reg) → matters (selected_register (byte_of v d.held)) p ≡ true →
       set_for (held_byte d) p ≡ true
   own-within v d own p h = within (held_byte d) p (subst (λ (o : ℕ). matters
-      (selected_register (words_of d.held o Operation)) p ≡ true) own h)
+      (selected_register (output_words_of d.held o Operation)) p ≡ true) own h)
 
   few-for : (word : ℕ) → total (set_for word) ≤ most_for word
   few-for word = size-so (word == byte) word byte
@@ -355,13 +355,13 @@ module _ (laws : LawsOfSurveys) (output byte : ℕ) (turns_on : has_on byte ≡ 
 
   says-byte : (course : Course) (d : Pair) → OnByte course d → (limits : OutputLimits) →
       says d.guard.registers limits d.guard.host course
-      ≡ reading d.guard.registers limits d.guard.host course (due_job d.guard.registers course.survey d.guard.host)
+      ≡ survey_or_order d.guard.registers limits d.guard.host course (due_job d.guard.registers course.survey d.guard.host)
   says-byte course d on limits =
       ap (λ (b : Bool). if b then Ended (Stopped (Refused Busy)) else going d.guard.registers limits d.guard.host course course.twice)
       on.here.idle
       ∙ ap (λ (t : Option Differing). going d.guard.registers limits d.guard.host course t) on.once
       ∙ ap (λ (b : Option ℕ). going_to d.guard.registers limits d.guard.host course b) on.byte_is
-      ∙ ap (λ (b : Bool). if b then reading d.guard.registers limits d.guard.host course
+      ∙ ap (λ (b : Bool). if b then survey_or_order d.guard.registers limits d.guard.host course
       (due_job d.guard.registers course.survey d.guard.host) else turning_off course byte) turns_on
 
   -- once nothing is due OPERATION is known to hold what it holds
@@ -372,7 +372,7 @@ module _ (laws : LawsOfSurveys) (output byte : ℕ) (turns_on : has_on byte ≡ 
       (ap wanted_in on.here.none) free Operation refl refl
 
   operation-only : (course : Course) (d : Pair) → OnByte course d → due_job d.guard.registers course.survey d.guard.host ≡ None →
-      possible_at d.guard.host (Out course.survey.output Operation) ≡ only (words_of d.held course.survey.output Operation)
+      possible_at d.guard.host (Out course.survey.output Operation) ≡ only (output_words_of d.held course.survey.output Operation)
   operation-only course d on free = true-of (as-knows on.here.tells) (Some Operation)
       (read-is d.guard d.held course.survey 7 (as-at course.survey d.guard d.held on.spare (most_for (held_byte d)) on.here) nothing
       (ap wanted_in on.here.none) free Operation refl refl) (none-some _ (operation-sure course d on free))
@@ -381,17 +381,17 @@ module _ (laws : LawsOfSurveys) (output byte : ℕ) (turns_on : has_on byte ≡ 
       is_operation_known d.guard.host course.survey.output byte ≡ (held_byte d == byte)
   operation-known course d on free =
       ap (λ (o : Option ℕ). option_map_or (λ word. word == byte) o false) known-word
-      ∙ ap (λ (o : ℕ). words_of d.held o Operation == byte) on.own
+      ∙ ap (λ (o : ℕ). output_words_of d.held o Operation == byte) on.own
     where
       known-word : known_word (Out course.survey.output Operation) (possible_at d.guard.host (Out course.survey.output Operation))
-          ≡ Some (words_of d.held course.survey.output Operation)
+          ≡ Some (output_words_of d.held course.survey.output Operation)
       known-word = ap (known_word (Out course.survey.output Operation)) (operation-only course d on free)
-          ∙ by (cell_accepts (Out course.survey.output Operation) (words_of d.held course.survey.output Operation))
+          ∙ by (cell_accepts (Out course.survey.output Operation) (output_words_of d.held course.survey.output Operation))
           (sym (ap (λ (p : Possible). is_none (known_word (Out course.survey.output Operation) p)) (operation-only course d on free))
           ∙ operation-sure course d on free)
         where
-          by : (b : Bool) → is_none (rule b (words_of d.held course.survey.output Operation)) ≡ false →
-              rule b (words_of d.held course.survey.output Operation) ≡ Some (words_of d.held course.survey.output Operation)
+          by : (b : Bool) → is_none (rule b (output_words_of d.held course.survey.output Operation)) ≡ false →
+              rule b (output_words_of d.held course.survey.output Operation) ≡ Some (output_words_of d.held course.survey.output Operation)
           by true h = refl
           by false h = cc
 
@@ -416,7 +416,7 @@ module _ (laws : LawsOfSurveys) (output byte : ℕ) (turns_on : has_on byte ≡ 
       surveyed same = ap₂ (λ (o : Option Job) (b : Bool). is_none o && not b) free
           (unstuck d.guard d.held course.survey 7 (as-at course.survey d.guard d.held on.spare (most_for (held_byte d)) on.here) nothing
           (ap wanted_in on.here.none) free refl
-          (ap₂ (λ (p : PartRegisters) (o : ℕ). has_register p (selected_register (words_of d.held o Operation))) on.part_is on.own
+          (ap₂ (λ (p : PartRegisters) (o : ℕ). has_register p (selected_register (output_words_of d.held o Operation))) on.part_is on.own
           ∙ ap (λ (w : ℕ). has_register old.guard.registers (selected_register w)) same ∙ chosen_there))
 
       go : (b : Bool) → (held_byte d == byte) ≡ b →
@@ -487,7 +487,7 @@ module _ (laws : LawsOfSurveys) (output byte : ℕ) (turns_on : has_on byte ≡ 
       says d.guard.registers limits d.guard.host course ≡ ordering course (due_order (is_byte d))
   ordered-by course d on limits free =
       says-byte course d on limits
-      ∙ ap (λ (o : Option Job). reading d.guard.registers limits d.guard.host course o) free
+      ∙ ap (λ (o : Option Job). survey_or_order d.guard.registers limits d.guard.host course o) free
       ∙ ap (ordering course) (order-held course d on limits free)
 
   asks-by : (course : Course) (d : Pair) → OnByte course d → (limits : OutputLimits) (job : Job) →
@@ -495,7 +495,7 @@ module _ (laws : LawsOfSurveys) (output byte : ℕ) (turns_on : has_on byte ≡ 
       says d.guard.registers limits d.guard.host course ≡ taking course job
   asks-by course d on limits job due =
       says-byte course d on limits
-      ∙ ap (λ (o : Option Job). reading d.guard.registers limits d.guard.host course o) due
+      ∙ ap (λ (o : Option Job). survey_or_order d.guard.registers limits d.guard.host course o) due
 
   -- a job that is named: one of the survey, or the order of the byte while OPERATION holds another
   data Named (course : Course) (d : Pair) (job : Job) : Type 0 where
@@ -534,7 +534,7 @@ module _ (laws : LawsOfSurveys) (output byte : ℕ) (turns_on : has_on byte ≡ 
   none-untaken course d on = go course.survey.read.operation refl where
     go : (b : Bool) → course.survey.read.operation ≡ b → (if b then untaken_at d.guard.host course.survey.output else None) ≡ None
     go false e = refl
-    go true e = sole-taken (Out course.survey.output Operation) (words_of d.held course.survey.output Operation)
+    go true e = sole-taken (Out course.survey.output Operation) (output_words_of d.held course.survey.output Operation)
         (possible_at d.guard.host (Out course.survey.output Operation)) (on.here.tells.may (Some Operation) e)
         (accepted-now course d (Some Operation) on)
 
@@ -739,15 +739,15 @@ module _ (laws : LawsOfSurveys) (output byte : ℕ) (turns_on : has_on byte ≡ 
       after : Survey
       after = record course.survey { asked = None; left = course.survey.left - 1 }
 
-      own-word : words_of before.held course.survey.output Operation ≡ held_byte before
-      own-word = ap (λ (o : ℕ). words_of before.held o Operation) on.own
+      own-word : output_words_of before.held course.survey.output Operation ≡ held_byte before
+      own-word = ap (λ (o : ℕ). output_words_of before.held o Operation) on.own
 
       is : IsOrdered (Out course.survey.output Operation) byte before end new
       is = runs.did (subst (λ (w : ℕ). is_allowed w (cell_code (Out course.survey.output Operation)) ≡ true)
           (sym (on.others Protect (λ same. cc) tt)) allowed)
 
       takes : held_byte new ≡ byte
-      takes = ap (λ (o : ℕ). words_of new.held o Operation) (sym on.own) ∙ is.takes
+      takes = ap (λ (o : ℕ). output_words_of new.held o Operation) (sym on.own) ∙ is.takes
 
       itself : (byte == byte) ≡ true
       itself = eq-eqb byte byte refl
@@ -1033,7 +1033,7 @@ module _ (laws : LawsOfSurveys) (output byte : ℕ) (turns_on : has_on byte ≡ 
           cell-of k = 0
 
           known : possible_at d.guard.host (Out output Operation) ≡ only (held_byte d)
-          known = subst (λ (o : ℕ). possible_at d.guard.host (Out o Operation) ≡ only (words_of d.held o Operation)) on.own
+          known = subst (λ (o : ℕ). possible_at d.guard.host (Out o Operation) ≡ only (output_words_of d.held o Operation)) on.own
               (operation-only course d on (subst (λ (r : Course). due_job d.guard.registers r.survey d.guard.host ≡ None) same free))
 
           go : (f : Option LimitFault) → guard_fault d.guard (Order (Out output Operation) byte) ≡ f →
@@ -1089,7 +1089,7 @@ turns-on : LawsOfSurveys → CoursesEnd → (output byte tries n : ℕ) (old new
     HasLife old.guard.host old.held → is_busy old.guard.host ≡ false → output < old.guard.host.setup.outputs →
     has_register old.guard.registers (selected_register byte) ≡ true →
     is_allowed (word_at old.held.words Protect) (cell_code (Out output Operation)) ≡ true →
-    (most : ℕ) → (if words_of old.held output Operation == byte then 10 else 20) ≡ most → most ≤ tries →
+    (most : ℕ) → (if output_words_of old.held output Operation == byte then 10 else 20) ≡ most → most ≤ tries →
     ByteChain byte (power_course_of output byte tries) old course new n → ByteEnds output byte most n old new course
 turns-on laws ends output byte tries n old new course on has idle here there allowed most is enough' chain = record {
   few = let many = bytes-few ends (power_course_of output byte tries) old course new n chain in
@@ -1117,22 +1117,24 @@ turns-on laws ends output byte tries n old new course on has idle here there all
         (renewed d.guard.registers (limits_at d.guard c.survey.output) d.guard.host c) d
     way c d w = renewed-way laws output byte on old (tries - most) there allowed c d w
 
-    start : Here (survey_of output None tries) old.guard old.held (size_for (words_of old.held output Operation == byte) + 1)
-        (size_for (words_of old.held output Operation == byte))
-        × (set_need (cells_for (words_of old.held output Operation == byte) (selected_register (words_of old.held output Operation))
-        (selected_register byte)) (survey_of output None tries) old.guard.host ≤ size_for (words_of old.held output Operation == byte) + 1)
-    start = begins-here (survey_of output None tries) old.guard old.held (size_for (words_of old.held output Operation == byte) + 1)
-        (size_for (words_of old.held output Operation == byte))
-        (cells_for (words_of old.held output Operation == byte)
-        (selected_register (words_of old.held output Operation)) (selected_register byte))
-        (size-so (words_of old.held output Operation == byte) (words_of old.held output Operation) byte) idle here refl
+    start : Here (survey_of output None tries) old.guard old.held (size_for (output_words_of old.held output Operation == byte) + 1)
+        (size_for (output_words_of old.held output Operation == byte))
+        × (set_need
+        (cells_for (output_words_of old.held output Operation == byte) (selected_register (output_words_of old.held output Operation))
+        (selected_register byte)) (survey_of output None tries) old.guard.host ≤ size_for
+        (output_words_of old.held output Operation == byte) + 1)
+    start = begins-here (survey_of output None tries) old.guard old.held (size_for (output_words_of old.held output Operation == byte) + 1)
+        (size_for (output_words_of old.held output Operation == byte))
+        (cells_for (output_words_of old.held output Operation == byte)
+        (selected_register (output_words_of old.held output Operation)) (selected_register byte))
+        (size-so (output_words_of old.held output Operation == byte) (output_words_of old.held output Operation) byte) idle here refl
         (λ shape known'. true-format laws.lives has output shape known')
         (subst (λ (s : Summary). HasPlaces s.known) has.life.host_is
         (life-places has.config has.passes has.events)) (inr (omega arith)) refl
 
     begun : OnByte laws output byte on old (tries - most) there allowed (power_course_of output byte tries) old
     begun = record {
-      spare = size_for (words_of old.held output Operation == byte) + 1;
+      spare = size_for (output_words_of old.held output Operation == byte) + 1;
       here = start.0;
       own = refl;
       byte_is = refl;
@@ -1142,20 +1144,20 @@ turns-on laws ends output byte tries n old new course on has idle here there all
       setup_is = refl;
       made = refl;
       others = λ other two there'. refl;
-      enough = go (words_of old.held output Operation == byte) refl is;
+      enough = go (output_words_of old.held output Operation == byte) refl is;
       lived = has;
     }
       where
-        go : (b : Bool) → (words_of old.held output Operation == byte) ≡ b → (if b then 10 else 20) ≡ most →
+        go : (b : Bool) → (output_words_of old.held output Operation == byte) ≡ b → (if b then 10 else 20) ≡ most →
             Enough laws output byte on old (tries - most) there allowed (power_course_of output byte tries) old
-            (size_for (words_of old.held output Operation == byte) + 1)
+            (size_for (output_words_of old.held output Operation == byte) + 1)
         go true e m =
             let few = start.1 in
-            let size : size_for (words_of old.held output Operation == byte) ≡ 4 = ap size_for e in
+            let size : size_for (output_words_of old.held output Operation == byte) ≡ 4 = ap size_for e in
             inr (inl (e, refl, omega arith))
         go false e m =
             let few = start.1 in
-            let size : size_for (words_of old.held output Operation == byte) ≡ 6 = ap size_for e in
+            let size : size_for (output_words_of old.held output Operation == byte) ≡ 6 = ap size_for e in
             inr (inr (e, refl, refl, omega arith))
 
     last : OnByte laws output byte on old (tries - most) there allowed course new
@@ -1192,7 +1194,7 @@ module _ (output byte : ℕ) (off : has_on byte ≡ false) (old : Pair) (tries :
       ap (λ (b : Bool). if b then Ended (Stopped (Refused Busy)) else going d.guard.registers limits d.guard.host course course.twice) quiet
       ∙ ap (λ (t : Option Differing). going d.guard.registers limits d.guard.host course t) is.once
       ∙ ap (λ (b : Option ℕ). going_to d.guard.registers limits d.guard.host course b) is.byte_is
-      ∙ ap (λ (b : Bool). if b then reading d.guard.registers limits d.guard.host course
+      ∙ ap (λ (b : Bool). if b then survey_or_order d.guard.registers limits d.guard.host course
       (due_job d.guard.registers course.survey d.guard.host) else turning_off course byte) off
 
   -- how far it is: it has begun, or the order was read back
@@ -1328,8 +1330,8 @@ pub byte-ends : LawsOfSurveys → CoursesEnd → (output byte tries n : ℕ) (ol
     ByteChain byte (power_course_of output byte tries) old course new n →
     ByteEnds output byte (byte_tries old.held output byte) n old new course
 byte-ends laws ends output byte tries n old new course has idle here there allowed enough chain = go (has_on byte) refl enough where
-  go : (b : Bool) → has_on byte ≡ b → (if b then (if words_of old.held output Operation == byte then 10 else 20) else 1) ≤ tries →
-      ByteEnds output byte (if b then (if words_of old.held output Operation == byte then 10 else 20) else 1) n old new course
+  go : (b : Bool) → has_on byte ≡ b → (if b then (if output_words_of old.held output Operation == byte then 10 else 20) else 1) ≤ tries →
+      ByteEnds output byte (if b then (if output_words_of old.held output Operation == byte then 10 else 20) else 1) n old new course
   go true on few = turns-on laws ends output byte tries n old new course on has idle here (there on) allowed _ refl few chain
   go false off few = off-ends output byte off old tries allowed idle here few course new n
       (whole-off output byte off old tries allowed idle here few course new n chain)

@@ -50,12 +50,12 @@ use Rattle.pm_rail.specs.declared.course.Differing.{Differing}
 use Rattle.pm_rail.specs.declared.fault.PlanFault.{PlanFault}
 use Rattle.pm_rail.specs.declared.next.Next.TheVariants.{Ended, Job}
 use Rattle.pm_rail.specs.declared.survey.Survey.{Survey}
-use Rattle.pm_rail.specs.Course.{after_by, course_of, going, going_to, is_carried_out, naming, next_by, once_more, order_by, order_next, ordering, reading, reading_for, renewed, says, told_of}
+use Rattle.pm_rail.specs.Course.{after_by, course_of, going, going_to, is_carried_out, naming, next_by, once_more, order_by, order_next, ordering, survey_or_order, reading_for, renewed, says, told_of}
 use Rattle.pm_rail.specs.Laws.{CoursesEnd, SurveysEndKnown}
 use Rattle.pm_rail.specs.Lemmas.Steps.{first-of, second-of}
 use Rattle.pm_rail.specs.Lemmas.Surveyed.{has-none}
 use Rattle.pm_rail.specs.Survey.{due_job, is_surveyed, nothing_read, survey_of, wanted_in}
-use Rattle.pm_course_laws.specs.Chains.{Chain, EndsBy, FitsPart, HasLife, IsOrdered, Pair, Step, forgotten, held_fault, is_surprised, no_job, one_more, tries_for, words_of}
+use Rattle.pm_course_laws.specs.Chains.{Chain, EndsBy, FitsPart, HasLife, IsOrdered, Pair, Step, forgotten, held_fault, is_surprised, no_job, one_more, tries_for, output_words_of}
 use Rattle.std.proofs.lemmas.Bool.Decides.{nat_tests}
 use Rattle.pm_table.specs.declared.cell.Cell.{Cell}
 use Rattle.pm_model.specs.Commanded.{commanded, selected}
@@ -145,13 +145,13 @@ module _ (laws : LawsOfSurveys) (end_known : SurveysEndKnown)
   of_output w register = word_at w (Out output register)
 
   abbrev pub goal : Held
-  goal = goal_of (words_of start output) wanting
+  goal = goal_of (output_words_of start output) wanting
 
   -- what stays of the course, by the limits and by what is held
   pub record Facts (limits : OutputLimits) (h : Converter) : Type 0 where
     pub fits : FitsPart part h output wanting
     pub judged : held_fault limits h output wanting ≡ fault
-    pub at_end : goal_of (words_of h output) wanting ≡ goal
+    pub at_end : goal_of (output_words_of h output) wanting ≡ goal
     pub protects : word_at h.words Protect ≡ word_at start.words Protect
     pub made : h.config ≡ start.config
     pub kept : is_some fault ≡ true → h.words ≡ start.words
@@ -183,8 +183,8 @@ module _ (laws : LawsOfSurveys) (end_known : SurveysEndKnown)
   plan-held course d on free =
       subst (λ (o : ℕ). FitsPart d.guard.registers d.held o wanting →
       plan_in o wanted d.guard ≡ answer (held_fault (limits_at d.guard o) d.held o wanting)
-      (option_map (order_of (words_of d.held o) wanting)
-      (next_register (value_for d.held.config o) (words_of d.held o) wanting)))
+      (option_map (order_of (output_words_of d.held o) wanting)
+      (next_register (value_for d.held.config o) (output_words_of d.held o) wanting)))
       on.own (λ fits. plan-is d.guard d.held course.survey on.spare on.at wanted (ap wanted_in on.plan) free end_known fits
       (ap is_some on.plan))
       (subst (λ (p : PartRegisters). FitsPart p d.held output wanting) (sym on.part_is) on.facts.fits)
@@ -203,7 +203,7 @@ module _ (laws : LawsOfSurveys) (end_known : SurveysEndKnown)
   -- a course that is so far on says what its survey asks for, or orders
   pub says-is : (course : Course) (d : Pair) → On course d → (limits : OutputLimits) →
       says d.guard.registers limits d.guard.host course
-      ≡ reading d.guard.registers limits d.guard.host course (due_job d.guard.registers course.survey d.guard.host)
+      ≡ survey_or_order d.guard.registers limits d.guard.host course (due_job d.guard.registers course.survey d.guard.host)
   says-is course d on limits =
       ap (λ (b : Bool). if b then Ended (Stopped (Refused Busy)) else going d.guard.registers limits d.guard.host course course.twice)
       on.at.idle
@@ -395,8 +395,8 @@ module _ (laws : LawsOfSurveys) (end_known : SurveysEndKnown)
     where
       -- the judgement found nothing
       judged : (limits_fault (limits_at old.guard output) (value_for old.held.config output) wanting ≡ None)
-          × (words_fault (value_for old.held.config output) (words_of old.held output) wanting ≡ None)
-          × (protection_fault (word_at old.held.words Protect) (words_of old.held output) wanting ≡ None)
+          × (words_fault (value_for old.held.config output) (output_words_of old.held output) wanting ≡ None)
+          × (protection_fault (word_at old.held.words Protect) (output_words_of old.held output) wanting ≡ None)
       judged = three-none _ _ _ (on.facts.judged ∙ free)
 
       allowed : Allows (word_at old.held.words Protect) (of_output old.held.words) wanting
@@ -552,7 +552,7 @@ module _ (laws : LawsOfSurveys) (end_known : SurveysEndKnown)
 
   -- the words of the output, and its next register
   abbrev own_words : Pair → Held
-  own_words d register = words_of d.held output register
+  own_words d register = output_words_of d.held output register
 
   abbrev next_in : Pair → Option Reg
   next_in d = next_register (value_for d.held.config output) (own_words d) wants
@@ -622,7 +622,7 @@ module _ (laws : LawsOfSurveys) (end_known : SurveysEndKnown)
       (sym (says-is laws end_known output wanted part fault start extra course old on limits) ∙ says')
     where
       go : (o : Option Asked) → due_job old.guard.registers course.survey old.guard.host ≡ o →
-          reading old.guard.registers limits old.guard.host course o ≡ Job job →
+          survey_or_order old.guard.registers limits old.guard.host course o ≡ Job job →
           Way (forgotten again (told_of (naming course (Job job)) end)) new
       go (Some j) due is =
           let t = taken course j job is in
@@ -667,7 +667,7 @@ module _ (laws : LawsOfSurveys) (end_known : SurveysEndKnown)
       never j (checks c why) is = cc
 
       go : (o : Option Asked) → due_job d.guard.registers course.survey d.guard.host ≡ o →
-          reading d.guard.registers limits d.guard.host course o ≡ Job (Order cell word) →
+          survey_or_order d.guard.registers limits d.guard.host course o ≡ Job (Order cell word) →
           is_allowed (word_at d.held.words Protect) (cell_code cell) ≡ true
       go (Some j) due is =
           let t = taken course j (Order cell word) is in
@@ -703,7 +703,7 @@ module _ (laws : LawsOfSurveys) (end_known : SurveysEndKnown)
         never : due_job d.guard.registers course.survey d.guard.host ≡ None → ⊥
         never free = ordered fault (next_in d) refl refl last.1
             (ap (ordering course) (sym (order-held course d on limits same free))
-            ∙ (sym (ap (λ (o : Option Asked). reading d.guard.registers limits d.guard.host course o) free)
+            ∙ (sym (ap (λ (o : Option Asked). survey_or_order d.guard.registers limits d.guard.host course o) free)
             ∙ (sym (says-is laws end_known output wanted part fault start extra course d on limits) ∙ says')))
           where
             ordered : (f : Option PlanFault) (n : Option Reg) → fault ≡ f → next_in d ≡ n →
@@ -780,7 +780,7 @@ module _ (laws : LawsOfSurveys) (end_known : SurveysEndKnown)
       some-none x e = cc
 
       go : (o : Option Asked) → due_job d.guard.registers course.survey d.guard.host ≡ o →
-          reading d.guard.registers limits d.guard.host course o ≡ Ended end → EndsSo end d
+          survey_or_order d.guard.registers limits d.guard.host course o ≡ Ended end → EndsSo end d
       go None free is = end-ordering course d end on free fault (next_in d) refl refl
           (ap (ordering course) (sym (order-held course d on limits same free)) ∙ is)
       go (Some j) due is = by (course.survey.left == 0) refl is where
@@ -832,9 +832,9 @@ ends-by laws end_known output wanted old new extra begun course end on n runs sa
           protect = last.facts.protects;
         })
       where
-        held-goal : (register : Reg) → words_of new.held output register
-            ≡ goal_of (words_of old.held output) (wants_of wanted) register
-        held-goal register = done (value_for new.held.config output) (words_of new.held output) (wants_of wanted) refl none
+        held-goal : (register : Reg) → output_words_of new.held output register
+            ≡ goal_of (output_words_of old.held output) (wants_of wanted) register
+        held-goal register = done (value_for new.held.config output) (output_words_of new.held output) (wants_of wanted) refl none
             register ∙ ap (λ (h : Held). h register) last.facts.at_end
     by (inr (x, refused, is)) = subst (λ (f : Option PlanFault). EndsBy output (wants_of wanted) old end new f) (sym refused)
         (record {
@@ -870,23 +870,23 @@ begins-on laws end_known output wanted tries old has idle here fits enough =
         kept = λ some. refl;
       };
       enough = go few (held_fault (limits_at old.guard output) old.held output (wants_of wanted)) refl
-          (next_register (value_for old.held.config output) (words_of old.held output) (wants_of wanted)) refl enough;
+          (next_register (value_for old.held.config output) (output_words_of old.held output) (wants_of wanted)) refl enough;
       lived = has;
     }
   where
     go : need (survey_of output (Some wanted) tries) old.guard.host ≤ 8 → (f : Option PlanFault) →
         held_fault (limits_at old.guard output) old.held output (wants_of wanted) ≡ f → (next : Option Reg) →
-        next_register (value_for old.held.config output) (words_of old.held output) (wants_of wanted) ≡ next →
+        next_register (value_for old.held.config output) (output_words_of old.held output) (wants_of wanted) ≡ next →
         (if is_some f || is_none next then 15 else 28) ≤ tries →
-        (need (survey_of output (Some wanted) tries) old.guard.host + 7 + dues (words_of old.held output) (wants_of wanted)
+        (need (survey_of output (Some wanted) tries) old.guard.host + 7 + dues (output_words_of old.held output) (wants_of wanted)
         + 8 + (tries - (if is_some f || is_none next then 15 else 28)) ≤ tries)
-        ⊎ ((false ≡ false) × ((dues (words_of old.held output) (wants_of wanted) ≡ 0)
+        ⊎ ((false ≡ false) × ((dues (output_words_of old.held output) (wants_of wanted) ≡ 0)
         ⊎ (is_some (held_fault (limits_at old.guard output) old.held output (wants_of wanted)) ≡ true))
         × (need (survey_of output (Some wanted) tries) old.guard.host + 7
         + (tries - (if is_some f || is_none next then 15 else 28)) ≤ tries))
     go few (Some x) f next e many = inr (refl, inr (ap is_some f), omega arith)
     go few None f None e many = inr (refl, inl (none-due (value_for old.held.config output) _ _ e), omega arith)
-    go few None f (Some r) e many = let five = five-dues (words_of old.held output) (wants_of wanted) in inl (omega arith)
+    go few None f (Some r) e many = let five = five-dues (output_words_of old.held output) (wants_of wanted) in inl (omega arith)
 
 -- a course that is so far on, with so many tries over
 from-on : (laws : LawsOfSurveys) (end_known : SurveysEndKnown) → CoursesEnd →
@@ -962,7 +962,7 @@ goes-on laws end_known output wanted old course has idle here fits way many = re
       below (λ p. true) _ (λ p h. refl) in
       let all = seven in
       let one = small (is_learned course.survey old.guard.host) in
-      let five = five-dues (words_of old.held output) (wants_of wanted) in
+      let five = five-dues (output_words_of old.held output) (wants_of wanted) in
       inl (omega arith);
   lived = has;
 }

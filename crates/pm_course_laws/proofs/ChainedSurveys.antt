@@ -8,7 +8,7 @@ use Rattle.pm_device.specs.declared.config.Config.{Config}
 use Rattle.pm_device.specs.Held.{Held as Converter, shape_for, value_for}
 use Rattle.pm_host.specs.Known.{HasPlaces, Known, all_any, known_after, known_now, known_possible}
 use Rattle.pm_host.specs.Marks.{Good, Put, marks}
-use Rattle.pm_host.specs.Now.{now as host_now}
+use Rattle.pm_host.specs.Now.{host_now}
 use Rattle.pm_host.specs.Possible.{is_listed, is_possible, joined, only, possible_of}
 use Rattle.pm_host.specs.Standing.{standing_of}
 use Rattle.pm_host.specs.Summary.{Summary, format_at, possible_at}
@@ -18,7 +18,8 @@ use Rattle.pm_world.specs.declared.event.Event.{Event}
 use Rattle.pm_world.specs.Lemmas.{now-config}
 use Rattle.pm_world.specs.Life.{life, now, state_of}
 use Rattle.pm_world.specs.Setup.{setup_of}
-use Rattle.pm_course_laws.specs.Chains.{FitsPart, HasLife, IsChecked, IsLearned, IsLife, Pair, Step, held_fault, is_surprised, words_of}
+use Rattle.pm_course_laws.specs.Chains.{FitsPart, HasLife, IsChecked, IsLearned, IsLife, Pair, Step, held_fault, is_surprised}
+use Rattle.pm_course_laws.specs.Chains.{output_words_of}
 use Rattle.std.specs.Prelude.{Bool, Err, None, Option, Result, Some, [], cond, false, find, if◌then◌else◌, is_none, is_some, not, option_map, slice_index_or, true, unwrap_or, ◌&&◌, ◌++◌, ◌+◌, ◌<◌, ◌==◌, ◌||◌, ◌∷◌, ◌≢◌, ◌≤◌, ◌⊎◌}
 use Rattle.std.specs.Option.{option_map_or, option_or}
 use Rattle.std.proofs.lemmas.Bool.{eq-eqb, not-false, not-true}
@@ -41,8 +42,8 @@ use Rattle.pm_rail.specs.declared.survey.Survey.{Survey}
 use Rattle.pm_rail.specs.Known.{Cells, cells_of, known_at, known_of, known_or, known_word, sole, sole_of}
 use Rattle.pm_course.specs.FrameCourse.{untaken}
 use Rattle.pm_rail.specs.Registers.{Held, Wants, wants_of}
-use Rattle.pm_rail.specs.Lemmas.Surveyed.{found, has-none}
-use Rattle.pm_rail.specs.Lemmas.Places.{Reason, below, cell_of, each-place, has-and, has_at, is-known, is-only, more as one-more, none-read, once, one-place, others-stay, protect-unread, protect-unsure, same-itself, same_place, still-whole, tally, there, total, two-places, unread-reason, unsure-reason, with_protect}
+use Rattle.pm_rail.specs.Lemmas.Surveyed.{found_passes_test, has-none}
+use Rattle.pm_rail.specs.Lemmas.Places.{Reason, below, cell_of, each-place, has-and, has_at, is-known, is-only, one_place_more as one-more, none-read, each_place_is_once, one-place, others-stay, protect-unread, protect-unsure, same-itself, same_place, still-whole, tally, there, total, two-places, unread-reason, unsure-reason, with_protect}
 use Rattle.pm_host.specs.declared.job.JobEnd.{JobEnd}
 use Rattle.pm_rail.specs.Lemmas.Says.{ended-same}
 use Rattle.std.proofs.lemmas.Bool.Decides.{nat_tests}
@@ -162,11 +163,12 @@ kind-in part v s shape job is =
     go true u p n q el eu ep en eq h = at (Learn v.output) h (learns (inl (not-true v.learned el)))
     go false (Some r) p n q el eu ep en eq h = at (Check (Out v.output r)) h (checks (Out v.output r)
         (unread-reason part v s.known (known_of (cells_of part shape s) v.output) (wants_of (wanted_in v.plan)) r
-        (found (is_unread part v.read (known_of (cells_of part shape s) v.output) (wants_of (wanted_in v.plan))) registers r eu)))
+        (found_passes_test
+        (is_unread part v.read (known_of (cells_of part shape s) v.output) (wants_of (wanted_in v.plan))) registers r eu)))
     go false None true n q el eu ep en eq h = at (Check Protect) h (checks Protect (protect-unread v s.known ep))
     go false None false (Some r) q el eu ep en eq h = at (Check (Out v.output r)) h (checks (Out v.output r)
         (unsure-reason part v s shape (known_of (cells_of part shape s) v.output) (wants_of (wanted_in v.plan)) r
-        (found (is_unsure part (cells_of part shape s) v.output (known_of (cells_of part shape s) v.output)
+        (found_passes_test (is_unsure part (cells_of part shape s) v.output (known_of (cells_of part shape s) v.output)
         (wants_of (wanted_in v.plan))) registers r en)))
     go false None false None true el eu ep en eq h = at (Check Protect) h (checks Protect (protect-unsure v s eq))
     go false None false None false el eu ep en eq h = cc
@@ -267,7 +269,7 @@ none-of test none p = go (test p) refl where
   go true e =
       let one : total (same_place p) ≤ total test = below test (same_place p)
       (λ x h. ap test (other-place p x h) ∙ e) in
-      let is = once p in absurd (omega arith)
+      let is = each_place_is_once p in absurd (omega arith)
   go false e = refl
 
 -- what passes a test passes one of two others
@@ -469,7 +471,7 @@ module _ (apart : CellsAreToldApart) (law : CellsHavePlaces) (output : ℕ) (sma
         let one : total (same_place p) ≤ total (λ q. not (settled k output read q)) =
         below (λ q. not (settled k output read q)) (same_place p)
         (λ q same. ap not (ap (settled k output read) (other-place p q same) ∙ unsettled)) in
-        let single = once p in
+        let single = each_place_is_once p in
         let enough : 7 ≤ spare = go was.calm in omega arith;
   }
     where
@@ -1006,19 +1008,20 @@ module _ (guard : Guarded) (h : Converter) (v : Survey) (spare : ℕ) (at : At v
     pub known-is : is_none (known_at cells (Out v.output r)) ≡ false
     known-is = not-second (is_needed known wants r) _ (not-second (has_register guard.registers r) _ (is-free.unsure r) has) needed
 
-    has-agree : known r ≡ words_of h v.output r
+    has-agree : known r ≡ output_words_of h v.output r
     has-agree =
         let there = none-some (known_word (Out v.output r) (possible_at guard.host (Out v.output r)))
         (subst (λ (p : Possible). is_none (known_word (Out v.output r) p) ≡ false) cell-is known-is) in
         let is = true-of at.knows (Some r) read-is there in
-        known-held cells (Out v.output r) (words_of h v.output r)
-        (ap (λ (p : Possible). is_possible (words_of h v.output r) p) (cell-is ∙ is) ∙ only-possible (words_of h v.output r)) known-is
+        known-held cells (Out v.output r) (output_words_of h v.output r)
+        (ap (λ (p : Possible). is_possible (output_words_of h v.output r) p) (cell-is ∙ is)
+        ∙ only-possible (output_words_of h v.output r)) known-is
 
-  pub operation-is : known Operation ≡ words_of h v.output Operation
+  pub operation-is : known Operation ≡ output_words_of h v.output Operation
   operation-is = has-agree Operation refl refl
 
   module _ (asked : missing_fault guard.registers (wants_of wanted) ≡ None)
-      (chosen : has_register guard.registers (selected_register (words_of h v.output Operation)) ≡ true) where
+      (chosen : has_register guard.registers (selected_register (output_words_of h v.output Operation)) ≡ true) where
     -- one that it lacks, and that stands at a word
     module _ (r : Reg) (w : ℕ) (missing : missing_word guard.registers shape r ≡ Some w) (volt : is_voltage r ≡ true) where
       stands-at : cells (Out v.output r) ≡ only w
@@ -1095,15 +1098,16 @@ module _ (guard : Guarded) (h : Converter) (v : Survey) (spare : ℕ) (at : At v
     surveyed = ap₂ (λ (o : Option Job) (b : Bool). is_none o && not b) free unstuck
 
   module _ (end_known : SurveysEndKnown) (fits : FitsPart guard.registers h v.output (wants_of wanted)) where
-    stands-agree : (r : Reg) (w : ℕ) → missing_word guard.registers shape r ≡ Some w → is_voltage r ≡ true → known r ≡ words_of h v.output r
-    stands-agree r w missing volt = known-held cells (Out v.output r) (words_of h v.output r)
+    stands-agree : (r : Reg) (w : ℕ) → missing_word guard.registers shape r ≡ Some w → is_voltage r ≡ true → known r
+        ≡ output_words_of h v.output r
+    stands-agree r w missing volt = known-held cells (Out v.output r) (output_words_of h v.output r)
         (ap₂ (λ (x : ℕ) (p : Possible). is_possible x p) (fits.missing r w missing)
         (stands-at fits.wanted fits.selected r w missing volt) ∙ only-possible w)
         (stands-known fits.wanted fits.selected r w missing volt)
 
-    agree : (r : Reg) → is_needed known wants r ≡ true → known r ≡ words_of h v.output r
+    agree : (r : Reg) → is_needed known wants r ≡ true → known r ≡ output_words_of h v.output r
     agree r needed = go (stands fits.wanted fits.selected r needed) where
-      go : Stands guard.registers shape r → known r ≡ words_of h v.output r
+      go : Stands guard.registers shape r → known r ≡ output_words_of h v.output r
       go (inl has) = has-agree r has needed
       go (inr (w, missing, volt)) = stands-agree r w missing volt
 
@@ -1120,7 +1124,8 @@ module _ (guard : Guarded) (h : Converter) (v : Survey) (spare : ℕ) (at : At v
 
     -- the plan is the one by the words that are held
     pub plan-is : is_some v.plan ≡ true → plan_in v.output wanted guard ≡ answer (held_fault (limits_at guard v.output) h v.output wants)
-        (option_map (order_of (words_of h v.output) wants) (next_register (value_for h.config v.output) (words_of h v.output) wants))
+        (option_map (order_of (output_words_of h v.output) wants)
+        (next_register (value_for h.config v.output) (output_words_of h v.output) wants))
     plan-is some =
         let value = shape_value shape in
         let limits = limits_at guard v.output in
@@ -1128,15 +1133,15 @@ module _ (guard : Guarded) (h : Converter) (v : Survey) (spare : ℕ) (at : At v
         five-three (limits_fault limits value wants) (unknown_fault cells v.output known wants) (protect_fault cells value known wants)
         (words_fault value known wants) (protection_fault (known_or cells Protect) known wants) unknown protects
         ∙ ap₂ (λ (a b : Option PlanFault). first (limits_fault limits value wants ∷ a ∷ b ∷ []))
-        (words-same value known (words_of h v.output) wants refl agree)
+        (words-same value known (output_words_of h v.output) wants refl agree)
         (ap (λ (p : ℕ). protection_fault p known wants) (protect-is some)
-        ∙ protection-same value known (words_of h v.output) wants refl agree (word_at h.words Protect)) in
+        ∙ protection-same value known (output_words_of h v.output) wants refl agree (word_at h.words Protect)) in
         ap (λ (b : Bool). if b then Err Busy else unless (missing_fault guard.registers wants)
         (planned_in guard.registers guard.host limits v.output wants (format_at guard.host v.output))) at.idle
         ∙ (ap₂ (λ (m : Option PlanFault) (f : Option Shape). unless m (planned_in guard.registers guard.host limits v.output wants f))
         fits.wanted format
         ∙ ap₂ (λ (f : Option PlanFault) (o : Option PlanOrder). answer f o) faults
-        (order-same value known (words_of h v.output) wants refl agree))
+        (order-same value known (output_words_of h v.output) wants refl agree))
       where
         unknown : unknown_fault cells v.output known wants ≡ None
         unknown = first-none-of (λ r. NotKnown (Out v.output r)) (is_unknown cells v.output known wants)

@@ -20,9 +20,9 @@ use Rattle.pm_host.specs.declared.question.Question.{Question}
 use Rattle.pm_host.specs.declared.question.Question.TheVariants.{Word, Mode, Coefficients}
 use Rattle.pm_host.specs.declared.stage.Stage.{Stage}
 use Rattle.pm_host.specs.declared.stage.Stage.TheVariants.{Asks, Reads, Writes}
-use Rattle.pm_host.specs.Lemmas.{reads_cell, writes_cell}
+use Rattle.pm_host.specs.Lemmas.{cell_read_is_request, writes_cell}
 use Rattle.pm_host.specs.Messages.{cell_read}
-use Rattle.pm_host.specs.Now.{now as host_now}
+use Rattle.pm_host.specs.Now.{host_now}
 use Rattle.pm_host.specs.Possible.{is_possible}
 use Rattle.pm_host.specs.Question.{question_message}
 use Rattle.pm_host.specs.Refusals.{is_busy}
@@ -44,7 +44,7 @@ use Rattle.pm_course.specs.declared.course_end.CourseNext.TheVariants.{Job}
 use Rattle.pm_course.specs.declared.course_end.Refusal.{Refusal}
 use Rattle.pm_course.specs.declared.frame_course.FrameCourse.{FrameCourse}
 use Rattle.pm_course.specs.Ends.{busy_end}
-use Rattle.pm_course.specs.FrameCourse.{Says, SaysNext, asked_for, ends as ends_with, last_end, missing_of, saying_by, saying_for, saying_missing, saying_next, saying_planned, saying_source, source_of}
+use Rattle.pm_course.specs.FrameCourse.{Says, SaysNext, asked_for, course_ends as ends_with, last_end, missing_of, saying_by, saying_for, saying_missing, saying_next, saying_planned, saying_source, source_of}
 use Rattle.pm_course.specs.Heard.{ended_by, forgetting, heard_by, is_job_of, mode_told, noting, stepped}
 use Rattle.pm_course.specs.Surprise.{is_surprise, surprises}
 use Rattle.pm_world.specs.declared.event.Arrival.TheVariants.{Whole}
@@ -406,14 +406,14 @@ module _ (jobs-laws : jobs.Given) (apart : CellsAreToldApart) (config : Config) 
       (goes_on (step_of h (Finished true))) (m + 1) (event.Finish true ∷ event.Deliver Whole ∷ later)
   write-frame c m later mid j stage way asked' fresh lived open' kind (jobs.checking cell es host kept) =
       let bad = read-message stage (Asks (Word cell) 0) false true
-      (stage-now later stage lived open' (Asks (Word cell) 0) (ap (λ (s : Summary). s.stage) host)) kind (reads_cell cell) in cc
+      (stage-now later stage lived open' (Asks (Word cell) 0) (ap (λ (s : Summary). s.stage) host)) kind (cell_read_is_request cell) in cc
   write-frame c m later mid j stage way asked' fresh lived open' kind (jobs.learning o q es own host kept) =
       let bad = read-message stage (Asks q 0) false true (stage-now later stage lived open' (Asks q 0)
       (ap (λ (s : Summary). s.stage) host)) kind
       (jobs.reads-so jobs-laws config passes spelled (mid ++ before) part limits o q own) in cc
   write-frame c m later mid j stage way asked' fresh lived open' kind (jobs.to_read cell word es host has inside may) =
       let bad = read-message stage (Reads cell word 0) false true
-      (stage-now later stage lived open' (Reads cell word 0) (ap (λ (s : Summary). s.stage) host)) kind (reads_cell cell) in cc
+      (stage-now later stage lived open' (Reads cell word 0) (ap (λ (s : Summary). s.stage) host)) kind (cell_read_is_request cell) in cc
   write-frame c m later mid j stage way asked' fresh lived open' kind (jobs.to_write cell word es host kept opened) =
       let got = jobs.write-frame jobs-laws config passes spelled (mid ++ before) part limits cell word
       (later ++ before) lived host kept opened in

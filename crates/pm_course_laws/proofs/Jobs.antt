@@ -22,7 +22,7 @@ use Rattle.pm_host.specs.Known.{known_after}
 use Rattle.pm_host.specs.Marks.{Good, Put}
 use Rattle.pm_host.specs.Messages.{cell_read, coefficients_read, mode_read}
 use Rattle.pm_host.specs.Question.{question_message}
-use Rattle.pm_host.specs.Summary.{Change, Summary, asked, change, ends as over, goes_on, idle, learned, marked, mode_taken, next as host_next, possible_at, read_back, sending_in, step_of, writes as writes_again}
+use Rattle.pm_host.specs.Summary.{Change, Summary, question_answered, change, ends as over, goes_on_at, idle, learned, marked, mode_taken, host_next, possible_at, read_back, sending_in, step_of, writes as writes_again}
 use Rattle.pm_host.specs.Transcript.{Accepted, Entry, Finished, Got, Setup, open_job}
 use Rattle.pm_table.specs.declared.cell.Cell.TheVariants.{Out, Protect}
 use Rattle.pm_table.specs.Cell.{IsCell, cell_code}
@@ -33,13 +33,13 @@ use Rattle.pm_model.specs.Settings.{Words, word_at}
 use Rattle.pm_device.specs.declared.config.Config.{Config}
 use Rattle.pm_device.specs.declared.converter.Ending.TheVariants.{Restart, Stop}
 use Rattle.pm_device.specs.Held.{mode_for, shape_for}
-use Rattle.pm_device.specs.History.{next as device_next}
+use Rattle.pm_device.specs.History.{device_next}
 use Rattle.pm_device.specs.Laws.{RequestsLatchAtMost}
 use Rattle.pm_host.specs.declared.job.Job.{Job as Asked}
 use Rattle.pm_host.specs.declared.host.Step.{Step as HostStep}
 use Rattle.pm_host.specs.declared.knowledge.Possible.{Possible}
 use Rattle.pm_host.specs.Laws.{OpenOrdersAreUncertain, TranscriptsAreFollowed}
-use Rattle.pm_host.specs.Now.{now as host_now}
+use Rattle.pm_host.specs.Now.{host_now}
 use Rattle.pm_host.specs.Possible.{is_possible}
 use Rattle.pm_limits.specs.declared.part_registers.PartRegisters.{PartRegisters}
 use Rattle.pm_limits.specs.declared.output_limits.OutputLimits.{OutputLimits}
@@ -83,7 +83,7 @@ pub check-next : (host : Summary) (cell : Cell) (word : ℕ) (answer : List ℕ)
 unfolding host_next
 check-next host cell word answer good = go (good_payload host.setup.addr (cell_read cell) answer) good where
   go : (p : Option (List ℕ)) → option_map word_in p ≡ Some word →
-      (asked (idle (asking host (Word cell))) (Word cell) 0 p).after ≡ checked host cell word
+      (question_answered (idle (asking host (Word cell))) (Word cell) 0 p).after ≡ checked host cell word
   go None e = cc
   go (Some payload) e = let same : word_in payload ≡ word = cc in ap (λ (w : ℕ). checked host cell w) same
 
@@ -98,7 +98,7 @@ pub data Learns (host : Summary) (q : Question) (answer : List ℕ) (output : �
       Learns host q answer output changed
 
 pub learns-none : (host : Summary) (q : Question) (answer : List ℕ) (output : ℕ) (b : Bool) →
-    Learns host q answer output (cond b (over (idle (asking host q)) Unknown) (goes_on (idle (asking host q)) (Asks q 1)))
+    Learns host q answer output (cond b (over (idle (asking host q)) Unknown) (goes_on_at (idle (asking host q)) (Asks q 1)))
 learns-none host q answer output true = never refl
 learns-none host q answer output false = again refl refl
 
@@ -118,13 +118,13 @@ learns-mode host answer payload output (Ok Direct) good = more payload good refl
 
 pub learns-by-mode : (host : Summary) (answer : List ℕ) (output : ℕ) (p : Option (List ℕ)) →
     good_payload host.setup.addr (mode_read output) answer ≡ p →
-    Learns host (Mode output) answer output (asked (idle (asking host (Mode output))) (Mode output) 0 p)
+    Learns host (Mode output) answer output (question_answered (idle (asking host (Mode output))) (Mode output) 0 p)
 learns-by-mode host answer output None good = learns-none host (Mode output) answer output (eqb 1 host.setup.passes)
 learns-by-mode host answer output (Some payload) good = learns-mode host answer payload output (mode_of (word_in payload)) good
 
 pub learns-by-coefficients : (host : Summary) (answer : List ℕ) (output : ℕ) (p : Option (List ℕ)) →
     good_payload host.setup.addr coefficients_read answer ≡ p →
-    Learns host (Coefficients output) answer output (asked (idle (asking host (Coefficients output))) (Coefficients output) 0 p)
+    Learns host (Coefficients output) answer output (question_answered (idle (asking host (Coefficients output))) (Coefficients output) 0 p)
 learns-by-coefficients host answer output None good = learns-none host (Coefficients output) answer output (eqb 1 host.setup.passes)
 learns-by-coefficients host answer output (Some payload) good =
     learns-shape host (Coefficients output) answer payload output (result_ok (shape_in Direct (coefficients_of payload))) good
@@ -326,7 +326,7 @@ module _ (laws : Given) (config : Config) (passes : ℕ) (spelled : IsSpelled co
 
     pub begins-order : (cell : Cell) (word : ℕ) → IsLived config passes (event.Order cell word ∷ old) →
         InJob (job.Order cell word) (event.Order cell word ∷ old)
-    unfolding host_next open_job accepted.end_of
+    unfolding host_next open_job accepted.last_job_end
     begins-order cell word lived =
         let is = begins-one (accepted.Order cell word) (event.Order cell word) lived refl refl in
         to_write cell word (event.Order cell word ∷ old) is.0 is.1

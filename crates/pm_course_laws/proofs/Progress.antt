@@ -53,7 +53,7 @@ use Rattle.pm_course_laws.specs.Chains.{ChainEnds, ChainsEnd}
 use Rattle.pm_course_laws.specs.FrameLives.{Means}
 use Rattle.pm_course_laws.specs.Progress.{pair_at}
 use Rattle.pm_course_laws.specs.Progress.{BeginsThere, EndsSo, FrameCoursesGetThere, GetsThere, GoesThere, IsUndisturbed}
-use Rattle.pm_course_laws.specs.Chains.{Chain, FitsPart, Pair, tries_for, words_of}
+use Rattle.pm_course_laws.specs.Chains.{Chain, FitsPart, Pair, tries_for, output_words_of}
 use Rattle.pm_course_laws.proofs.FrameSurveys.{surveys-there}
 use Rattle.pm_course_laws.proofs.Jobs as jobs
 use Rattle.pm_course_laws.proofs.Said as says
@@ -195,7 +195,7 @@ module _ (laws : Given) (jobs-laws : jobs.Given) (apart : CellsAreToldApart) (re
     source-here : source_of s c.course c.course.byte ≡ None
     source-here = way.no-source laws jobs-laws apart read.origin config passes part limits before spelled begun begun-fresh here-begun
         (Some wanted) names-since once-now allows-now c later lived (since-begun c same) begun-same.byte
-        (λ e. subst (λ (o : ℕ). is_possible (words_of (d later).held o Operation) (possible_at s (Out o Operation)) ≡ true)
+        (λ e. subst (λ (o : ℕ). is_possible (output_words_of (d later).held o Operation) (possible_at s (Out o Operation)) ≡ true)
         (sym begun-same.output) (known-ends.may Operation e))
 
     -- without a format the words that are wanted as such are those that it goes by
@@ -370,7 +370,7 @@ whole-there words voltages = ap (λ (r : Option Reg). option_map missing_at r) (
 whole-fits : (held : Held) (output : ℕ) (wants : Wants) → FitsPart all_registers held output wants
 whole-fits held output wants = record {
   wanted = ap (λ (r : Option Reg). option_map (λ register. MissingRegister register) r) (unfound volts);
-  selected = all-there (selected_register (words_of held output Operation));
+  selected = all-there (selected_register (output_words_of held output Operation));
   missing = never;
 }
   where
@@ -379,7 +379,7 @@ whole-fits held output wants = record {
     unfound (r ∷ rest) = ap (λ (b : Bool). if b then Some r else find (is_wanted_missing all_registers wants) rest)
         (ap (λ (b : Bool). is_some (wants r) && not b) (all-there r) ∙ and-false (is_some (wants r))) ∙ unfound rest
 
-    never : (r : Reg) (w : ℕ) → missing_word all_registers (shape_for held.config output) r ≡ Some w → words_of held output r ≡ w
+    never : (r : Reg) (w : ℕ) → missing_word all_registers (shape_for held.config output) r ≡ Some w → output_words_of held output r ≡ w
     never VoutMax w m = cc
     never VoutMin w m = cc
     never r w m = cc

@@ -34,7 +34,7 @@ use Rattle.pm_rail.specs.{Laws.CoursesEnd, Registers.wants_of, declared.apply_en
 use Rattle.pm_rail.specs.{declared.course.Course.Course, declared.course.Differing.Differing, declared.fault.PlanFault.PlanFault}
 use Rattle.pm_rail.specs.{declared.next.Next.Next, declared.wanted.Wanted.Wanted}
 use Rattle.pm_rail.specs.Course.{after_next, differing, going, going_to, is_carried_out, is_last, naming, next_of, once_more, order_next}
-use Rattle.pm_rail.specs.Course.{reading, reading_for, renewed, says, taking, told_of}
+use Rattle.pm_rail.specs.Course.{survey_or_order, reading_for, renewed, says, taking, told_of}
 use Rattle.pm_rail.specs.Lemmas.Says.{differing-same, ended-same, renewed-so}
 use Rattle.pm_rail.specs.Orders.{missing_fault, is_wanted_missing, voltages}
 use Rattle.pm_rail.specs.Survey.{due_by, due_job, ended, is_surveyed, wanted_in}
@@ -45,7 +45,8 @@ use Rattle.pm_rail.specs.declared.next.Next.TheVariants as said
 use Rattle.pm_course.specs.{Ends.busy_end, Surprise.surprises, declared.course_end.CourseEnd.CourseEnd}
 use Rattle.pm_course.specs.{declared.course_end.CourseEnd.TheVariants.Reached, declared.course_end.Refusal.Refusal}
 use Rattle.pm_course.specs.{declared.frame_course.FrameCourse.FrameCourse, declared.voltages.Voltages.Voltages}
-use Rattle.pm_course.specs.FrameCourse.{Says, SaysNext, asked_for, asking_for, ends, last_end, missing_of, planning, saying, saying_by}
+use Rattle.pm_course.specs.FrameCourse.{Says, SaysNext, asked_for, asking_for, course_ends, last_end, missing_of, planning, saying}
+use Rattle.pm_course.specs.FrameCourse.{saying_by}
 use Rattle.pm_course.specs.FrameCourse.{saying_for, saying_missing, saying_next, saying_planned, saying_source, source_of, with_plan}
 use Rattle.pm_course.specs.Heard.{ended_by, forgetting, is_job_of, heard_by, mode_told, noting, stepped}
 use Rattle.pm_course.specs.Wishes.{AreMeant, IsMeant, IsWordFor, is_missing, missing_at, missing_in, voltage_of}
@@ -79,7 +80,7 @@ module _ (part : PartRegisters) (limits : OutputLimits) (s : Summary) (c : Frame
       source_of s c.course c.course.byte ≡ None → words ≡ Ok formed →
       saying part limits s c words ≡ saying_planned part limits s c (Ok formed)
   by-words words formed l bi mi oi wi = ap (λ (e : Option CourseEnd). saying_by part limits s c words e) l
-      ∙ (ap (λ (b : Bool). if b then ends c busy_end else saying_missing part limits s c words (missing_of part c)) bi
+      ∙ (ap (λ (b : Bool). if b then course_ends c busy_end else saying_missing part limits s c words (missing_of part c)) bi
       ∙ (ap (λ (m : Option Refusal). saying_missing part limits s c words m) mi
       ∙ (ap (λ (o : Option ℕ). saying_source part limits s c words o) oi
       ∙ ap (λ (w : Result Wanted Refusal). saying_planned part limits s c w) wi)))
@@ -326,7 +327,7 @@ module _ (part : PartRegisters) (limits : OutputLimits) (s : Summary) where
   going-none c byte unlearned = ap (λ (b : Option ℕ). going_to part limits s c b) byte
 
   reading-now : (c : Course) → IsUnlearned c → reading_for part limits s c None ≡ taking c (Learn c.survey.output)
-  reading-now c unlearned = ap (λ (d : Option Asked). reading part limits s c d) (due c unlearned)
+  reading-now c unlearned = ap (λ (d : Option Asked). survey_or_order part limits s c d) (due c unlearned)
 
   pub next-due : (c : Course) → is_busy s ≡ false → c.byte ≡ None → IsUnlearned c → c.twice ≡ None →
       missing_fault part (wants_of (wanted_in c.survey.plan)) ≡ None → next_of part limits s c ≡ taking c (Learn c.survey.output)

@@ -23,15 +23,15 @@ use Rattle.pm_world.specs.Across.{MayWrite}
 use Rattle.pm_world.specs.Bands.{HoldsMissing}
 use Rattle.pm_world.specs.Mixed.{LiesAmong, start_let_go}
 use Rattle.pm_part_laws.specs.Happenings.{EachAsks, Happening, IsLifeBeside, beside, restarts}
-use Rattle.pm_part_laws.specs.OwnWords.{commands}
-use Rattle.pm_part_laws.specs.Surveys.{MissingUnread, held_at}
+use Rattle.pm_part_laws.specs.OwnWords.{commands_beside}
+use Rattle.pm_part_laws.specs.Surveys.{MissingUnreadBeside, held_at_beside}
 use Rattle.pm_course_laws.specs.Restarts.{IsNoStore}
 use Rattle.pm_course_laws.specs.FrameLives.{Means}
-use Rattle.pm_course_laws.specs.FramesBeside.{IsFrameCourseBeside, goal_at}
+use Rattle.pm_course_laws.specs.FramesBeside.{IsFrameCourseBeside, goal_at_beside}
 
 -- the words that an output's registers have stored: those that a restart gives them
-abbrev pub stored_at : Held → ℕ → List Happening → ℕ → rail.Held
-stored_at held passes happened output register = word_at (beside held passes happened).device.store (Out output register)
+abbrev pub stored_at_beside : Held → ℕ → List Happening → ℕ → rail.Held
+stored_at_beside held passes happened output register = word_at (beside held passes happened).device.store (Out output register)
 
 -- A course to wishes for words and voltages, which mean these wanted words, began while the host was idle, and this happened since, in which
 -- nobody asked for a store.
@@ -59,23 +59,25 @@ pub record FrameCoursesKeepBetween : Type 0 where
       GoesOnBeside held passes part output wanted later before → EachAsks (MayWrite output (wants_of wanted)) held passes later before
   pub earlier : (held : Held) (passes : ℕ) (part : PartRegisters) (output : ℕ) (wanted : Wanted) (rest newer later before : List Happening) →
       GoesOnBeside held passes part output wanted (rest ++ (newer ++ later)) before → list_any restarts (newer ++ later) ≡ false →
-      MissingUnread held passes part output before → HoldsMissing part held.config (beside held passes before).device.words output →
-      IsStep (goal_at held passes output wanted before)
-      (commands held passes (later ++ before) output) (commands held passes ((newer ++ later) ++ before) output)
+      MissingUnreadBeside held passes part output before → HoldsMissing part held.config (beside held passes before).device.words output →
+      IsStep (goal_at_beside held passes output wanted before)
+      (commands_beside held passes (later ++ before) output) (commands_beside held passes ((newer ++ later) ++ before) output)
   pub between : (held : Held) (passes : ℕ) (part : PartRegisters) (output : ℕ) (wanted : Wanted) (rest later before : List Happening) →
       GoesOnBeside held passes part output wanted (rest ++ later) before → list_any restarts later ≡ true →
-      selected_register (stored_at held passes before output Operation) ≡ selected_register (held_at held passes before output Operation) →
-      is_cut_by (value_for held.config output) (stored_at held passes before output) ≡ false →
-      is_cut_by (value_for held.config output) (goal_of (held_at held passes before output) (wants_of wanted)) ≡ false →
-      LiesAmong (commands_by (value_for held.config output) (stored_at held passes before output) ∷ goal_at held passes output wanted before ∷ [])
-      (commands held passes (later ++ before) output)
+      selected_register (stored_at_beside held passes before output Operation)
+      ≡ selected_register (held_at_beside held passes before output Operation) →
+      is_cut_by (value_for held.config output) (stored_at_beside held passes before output) ≡ false →
+      is_cut_by (value_for held.config output) (goal_of (held_at_beside held passes before output) (wants_of wanted)) ≡ false →
+      LiesAmong (commands_by (value_for held.config output) (stored_at_beside held passes before output) ∷ goal_at_beside held passes output wanted before ∷ [])
+      (commands_beside held passes (later ++ before) output)
   pub let_go : (held : Held) (passes : ℕ) (part : PartRegisters) (output : ℕ) (wanted : Wanted) (rest later before : List Happening) →
       GoesOnBeside held passes part output wanted (rest ++ later) before → list_any restarts later ≡ true →
-      selected_register (stored_at held passes before output Operation) ≡ selected_register (held_at held passes before output Operation) →
-      is_above (value_for held.config output (stored_at held passes before output VoutMin))
-      (value_for held.config output (stored_at held passes before output VoutMax)) ≡ false →
-      is_cut_by (value_for held.config output) (goal_of (held_at held passes before output) (wants_of wanted)) ≡ false →
-      LiesAmong (commands_by (value_for held.config output) (stored_at held passes before output) ∷ goal_at held passes output wanted before ∷
-      start_let_go (value_for held.config output) (stored_at held passes before output)
-      (goal_of (held_at held passes before output) (wants_of wanted)) (held_at held passes before output Operation) ∷ [])
-      (commands held passes (later ++ before) output)
+      selected_register (stored_at_beside held passes before output Operation)
+      ≡ selected_register (held_at_beside held passes before output Operation) →
+      is_above (value_for held.config output (stored_at_beside held passes before output VoutMin))
+      (value_for held.config output (stored_at_beside held passes before output VoutMax)) ≡ false →
+      is_cut_by (value_for held.config output) (goal_of (held_at_beside held passes before output) (wants_of wanted)) ≡ false →
+      LiesAmong (commands_by (value_for held.config output) (stored_at_beside held passes before output) ∷ goal_at_beside held passes output wanted before ∷
+      start_let_go (value_for held.config output) (stored_at_beside held passes before output)
+      (goal_of (held_at_beside held passes before output) (wants_of wanted)) (held_at_beside held passes before output Operation) ∷ [])
+      (commands_beside held passes (later ++ before) output)

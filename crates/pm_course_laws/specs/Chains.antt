@@ -113,21 +113,21 @@ is_surprised (Check cell) old = not (is_possible (word_at old.held.words cell) (
 is_surprised job old = false
 
 -- the words that a converter holds for an output
-abbrev pub words_of : Held → ℕ → Registers
-words_of held output register = word_at held.words (Out output register)
+abbrev pub output_words_of : Held → ℕ → Registers
+output_words_of held output register = word_at held.words (Out output register)
 
 -- why a plan to these words is refused, by the words that the converter holds
 abbrev pub held_fault : OutputLimits → Held → ℕ → Wants → Option PlanFault
 held_fault limits held output wants = first (
     limits_fault limits (value_for held.config output) wants ∷
-    words_fault (value_for held.config output) (words_of held output) wants ∷
-    protection_fault (word_at held.words Protect) (words_of held output) wants ∷
+    words_fault (value_for held.config output) (output_words_of held output) wants ∷
+    protection_fault (word_at held.words Protect) (output_words_of held output) wants ∷
     [])
 
 -- the part has what is wanted, and what OPERATION selects; a limit that it lacks stands at its word
 pub record FitsPart (part : PartRegisters) (held : Held) (output : ℕ) (wants : Wants) : Type 0 where
   pub wanted : missing_fault part wants ≡ None
-  pub selected : has_register part (selected_register (words_of held output Operation)) ≡ true
+  pub selected : has_register part (selected_register (output_words_of held output Operation)) ≡ true
   pub missing : HoldsMissing part held.config held.words output
 
 -- the format is to be learned again, where this is so
@@ -145,9 +145,9 @@ pub data Chain (begun : Course) (first : Pair) : Course → Pair → ℕ → Typ
 -- the end by that fault
 pub record IsReached (output : ℕ) (wants : Wants) (old : Pair) (end : ApplyEnd) (new : Pair) : Type 0 where
   pub reached : end ≡ Reached
-  pub words : (register : Reg) → words_of new.held output register ≡ goal_of (words_of old.held output) wants register
+  pub words : (register : Reg) → output_words_of new.held output register ≡ goal_of (output_words_of old.held output) wants register
   pub commands : commanded (value_for new.held.config output) new.held.words output
-      ≡ commands_by (value_for old.held.config output) (goal_of (words_of old.held output) wants)
+      ≡ commands_by (value_for old.held.config output) (goal_of (output_words_of old.held output) wants)
   pub protect : word_at new.held.words Protect ≡ word_at old.held.words Protect
 
 pub record IsRefused (fault : PlanFault) (old : Pair) (end : ApplyEnd) (new : Pair) : Type 0 where
@@ -162,7 +162,7 @@ EndsBy output wants old end new (Some fault) = IsRefused fault old end new
 abbrev pub tries_for : OutputLimits → Held → ℕ → Wants → ℕ
 tries_for limits held output wants =
     if is_some (held_fault limits held output wants)
-    || is_none (next_register (value_for held.config output) (words_of held output) wants) then 15 else 28
+    || is_none (next_register (value_for held.config output) (output_words_of held output) wants) then 15 else 28
 
 -- A course to wanted words is under way while no job is open: no order differed twice, and each cell that its survey counts as read may
 -- hold, by what the host knows, what it holds.
@@ -172,7 +172,7 @@ pub record IsUnderWay (output : ℕ) (wanted : Wanted) (d : Pair) (course : Cour
   pub byte : course.byte ≡ None
   pub once : course.twice ≡ None
   pub may : (register : Reg) → has_read course.survey.read register ≡ true →
-      is_possible (words_of d.held output register) (possible_at d.guard.host (Out output register)) ≡ true
+      is_possible (output_words_of d.held output register) (possible_at d.guard.host (Out output register)) ≡ true
   pub protect : course.survey.read.protect ≡ true → is_possible (word_at d.held.words Protect) (possible_at d.guard.host Protect) ≡ true
 
 -- It has begun at most so many jobs (`few`), one more if it names one (`more`), which WRITE_PROTECT allows if that is an order (`allowed`).
@@ -185,7 +185,7 @@ pub record ChainEnds (output : ℕ) (wanted : Wanted) (most n : ℕ) (old new : 
       is_allowed (word_at new.held.words Protect) (cell_code cell) ≡ true
   pub idle : is_busy new.guard.host ≡ false
   pub may : (register : Reg) → has_read course.survey.read register ≡ true →
-      is_possible (words_of new.held output register) (possible_at new.guard.host (Out output register)) ≡ true
+      is_possible (output_words_of new.held output register) (possible_at new.guard.host (Out output register)) ≡ true
   pub ends : (end : ApplyEnd) → next_by new.guard course ≡ Ended end →
       EndsBy output (wants_of wanted) old end new (held_fault (limits_at old.guard output) old.held output (wants_of wanted))
 
@@ -200,17 +200,17 @@ pub data ByteChain (byte : ℕ) (begun : Course) (first : Pair) : Course → Pai
 
 -- OPERATION holds the byte and each other cell its word, so the output commands what it does with that byte.
 pub record IsSwitched (output byte : ℕ) (old new : Pair) : Type 0 where
-  pub takes : words_of new.held output Operation ≡ byte
+  pub takes : output_words_of new.held output Operation ≡ byte
   pub others : (other : Cell) → other ≢ Out output Operation → IsCell old.guard.host.setup.outputs other →
       word_at new.held.words other ≡ word_at old.held.words other
   pub commands : commanded (value_for new.held.config output) new.held.words output
-      ≡ commands_by (value_for old.held.config output) (put (words_of old.held output) Operation byte)
+      ≡ commands_by (value_for old.held.config output) (put (output_words_of old.held output) Operation byte)
 
 -- How many tries are enough to turn an output on, or to change what it is on with: two surveys of five jobs where OPERATION holds the byte,
 -- since at most one answer of all surprises; and otherwise two of seven, which read WRITE_PROTECT and the register that the byte selects
 -- too, the order, and one more survey of five. One is enough to turn it off.
 abbrev pub byte_tries : Held → ℕ → ℕ → ℕ
-byte_tries held output byte = if has_on byte then (if words_of held output Operation == byte then 10 else 20) else 1
+byte_tries held output byte = if has_on byte then (if output_words_of held output Operation == byte then 10 else 20) else 1
 
 -- A job that such a course asks for: nothing refuses it; or it is the order of the byte, which WRITE_PROTECT allows, and no word moved yet.
 -- An order that turns the output on is refused by its limits alone.
@@ -243,7 +243,7 @@ pub record SurveyEnds (output most n : ℕ) (old new : Pair) (course : Course) :
   pub idle : is_busy new.guard.host ≡ false
   pub words : new.held.words ≡ old.held.words
   pub may : (register : Reg) → has_read course.survey.read register ≡ true →
-      is_possible (words_of new.held output register) (possible_at new.guard.host (Out output register)) ≡ true
+      is_possible (output_words_of new.held output register) (possible_at new.guard.host (Out output register)) ≡ true
   pub ends : (end : ApplyEnd) → next_by new.guard course ≡ Ended end → end ≡ Reached
 
 -- A course carried out by jobs that nothing disturbs: to words, as it begins, with so many tries (`begins`), and under way, with 28 of them
@@ -268,5 +268,5 @@ pub record ChainsEnd : Type 0 where
       ByteEnds output byte (byte_tries old.held output byte) n old new course
   pub surveys : (output tries n : ℕ) (old new : Pair) (course : Course) → HasLife old.guard.host old.held →
       is_busy old.guard.host ≡ false → output < old.guard.host.setup.outputs →
-      has_register old.guard.registers (selected_register (words_of old.held output Operation)) ≡ true → 10 ≤ tries →
+      has_register old.guard.registers (selected_register (output_words_of old.held output Operation)) ≡ true → 10 ≤ tries →
       Chain (survey_course_of output tries) old course new n → SurveyEnds output 10 n old new course

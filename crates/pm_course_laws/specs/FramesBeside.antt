@@ -40,8 +40,8 @@ use Rattle.pm_world.specs.Ended.{begins_other}
 use Rattle.pm_world.specs.Job.{asked_by}
 use Rattle.pm_world.specs.State.{asked, share_of}
 use Rattle.pm_part_laws.specs.Happenings.{EachAsks, Happening, Happens, Hears, IsLifeBeside, beside, restarts}
-use Rattle.pm_part_laws.specs.OwnWords.{commands}
-use Rattle.pm_part_laws.specs.Surveys.{MissingUnread, held_at}
+use Rattle.pm_part_laws.specs.OwnWords.{commands_beside}
+use Rattle.pm_part_laws.specs.Surveys.{MissingUnreadBeside, held_at_beside}
 use Rattle.pm_course_laws.specs.FrameLives.{IsHad, MaySay, Means, goes_on}
 
 -- How a course stands beside a part: as `IsFrameCourse` says of a life. Bytes that are heard and are no job's leave it as it is (`looks`).
@@ -91,24 +91,24 @@ pub record BeginsBeside (held : Held) (passes : ℕ) (part : PartRegisters) (beg
     (later before : List Happening) : Type 0 where
   pub here : begun.course.survey.output < held.config.count
   pub idle : is_busy (beside held passes before).host ≡ false
-  pub untold : MissingUnread held passes part begun.course.survey.output before
+  pub untold : MissingUnreadBeside held passes part begun.course.survey.output before
   pub steady : list_any restarts later ≡ false
   pub is_course : IsFrameCourseBeside held passes part begun before c own later
 
 -- what an output commands where each of its registers has the word that is wanted of it, and otherwise the one that it held then; and where
 -- OPERATION has this byte
-abbrev pub goal_at : Held → ℕ → ℕ → Wanted → List Happening → Ratio
-goal_at held passes output wanted happened =
-    commands_by (value_for held.config output) (goal_of (held_at held passes happened output) (wants_of wanted))
+abbrev pub goal_at_beside : Held → ℕ → ℕ → Wanted → List Happening → Ratio
+goal_at_beside held passes output wanted happened =
+    commands_by (value_for held.config output) (goal_of (held_at_beside held passes happened output) (wants_of wanted))
 
-abbrev pub power_goal_at : Held → ℕ → ℕ → ℕ → List Happening → Ratio
-power_goal_at held passes output byte happened =
-    commands_by (value_for held.config output) (put (held_at held passes happened output) Operation byte)
+abbrev pub power_goal_at_beside : Held → ℕ → ℕ → ℕ → List Happening → Ratio
+power_goal_at_beside held passes output byte happened =
+    commands_by (value_for held.config output) (put (held_at_beside held passes happened output) Operation byte)
 
 -- each register of the output keeps its word
 abbrev pub KeepsWords : Held → ℕ → ℕ → List Happening → List Happening → Type 0
 KeepsWords held passes output later before = (register : Reg) →
-    held_at held passes (later ++ before) output register ≡ held_at held passes before output register
+    held_at_beside held passes (later ++ before) output register ≡ held_at_beside held passes before output register
 
 -- A course to wishes beside a part. Each job that it says is the one that its way to the wished words names (`names`), which no limit and no
 -- host refuses (`free`). Of any two moments, the output commands at the later one what it commands at the earlier one, or what is wanted
@@ -124,18 +124,18 @@ pub record KeepsCourseBeside (held : Held) (passes : ℕ) (part : PartRegisters)
       SaysNext part (limits_at g output) (beside held passes (later ++ before)).host c (Job job) is → guard_fault g job ≡ None
   pub steps : HoldsMissing part held.config (beside held passes before).device.words output →
       (rest newer older : List Happening) → later ≡ rest ++ (newer ++ older) →
-      IsStep (goal_at held passes output wanted before)
-      (commands held passes (older ++ before) output) (commands held passes ((newer ++ older) ++ before) output)
+      IsStep (goal_at_beside held passes output wanted before)
+      (commands_beside held passes (older ++ before) output) (commands_beside held passes ((newer ++ older) ++ before) output)
   pub kept : HoldsMissing part held.config (beside held passes before).device.words output → (register : Reg) →
       wants_of wanted register ≡ None →
-      held_at held passes (later ++ before) output register ≡ held_at held passes before output register
+      held_at_beside held passes (later ++ before) output register ≡ held_at_beside held passes before output register
   pub come_true : HoldsMissing part held.config (beside held passes before).device.words output → (limits : OutputLimits) (is : FrameCourse)
       (register : Reg) (word : ℕ) → last_end c.end ≡ None →
       SaysNext part limits (beside held passes (later ++ before)).host c (Ended Reached) is → wants_of wanted register ≡ Some word →
-      held_at held passes (later ++ before) output register ≡ word
+      held_at_beside held passes (later ++ before) output register ≡ word
   pub commanded : HoldsMissing part held.config (beside held passes before).device.words output → (limits : OutputLimits) (is : FrameCourse) →
       last_end c.end ≡ None → SaysNext part limits (beside held passes (later ++ before)).host c (Ended Reached) is →
-      commands held passes (later ++ before) output ≡ goal_at held passes output wanted before
+      commands_beside held passes (later ++ before) output ≡ goal_at_beside held passes output wanted before
   pub untouched : EachAsks (IsNoOrder output) held passes later before → KeepsWords held passes output later before
 
 -- A course to a byte of OPERATION beside a part. Of any two moments, each register of the output holds at the later one what it holds at the
@@ -144,14 +144,15 @@ pub record KeepsCourseBeside (held : Held) (passes : ℕ) (part : PartRegisters)
 pub record KeepsByteBeside (held : Held) (passes : ℕ) (part : PartRegisters) (output byte : ℕ) (c : FrameCourse)
     (later before : List Happening) : Type 0 where
   pub words : (register : Reg) (rest newer older : List Happening) → later ≡ rest ++ (newer ++ older) →
-      (held_at held passes ((newer ++ older) ++ before) output register ≡ held_at held passes (older ++ before) output register)
-      ⊎ ((register ≡ Operation) × (held_at held passes ((newer ++ older) ++ before) output register ≡ byte))
+      (held_at_beside held passes ((newer ++ older) ++ before) output register
+      ≡ held_at_beside held passes (older ++ before) output register)
+      ⊎ ((register ≡ Operation) × (held_at_beside held passes ((newer ++ older) ++ before) output register ≡ byte))
   pub steps : (rest newer older : List Happening) → later ≡ rest ++ (newer ++ older) →
-      IsStep (power_goal_at held passes output byte before)
-      (commands held passes (older ++ before) output) (commands held passes ((newer ++ older) ++ before) output)
+      IsStep (power_goal_at_beside held passes output byte before)
+      (commands_beside held passes (older ++ before) output) (commands_beside held passes ((newer ++ older) ++ before) output)
   pub come_true : (limits : OutputLimits) (is : FrameCourse) → last_end c.end ≡ None →
       SaysNext part limits (beside held passes (later ++ before)).host c (Ended Reached) is →
-      held_at held passes (later ++ before) output Operation ≡ byte
+      held_at_beside held passes (later ++ before) output Operation ≡ byte
   pub untouched : EachAsks (IsNoOrder output) held passes later before → KeepsWords held passes output later before
 
 -- Beside any part: a course to wishes that have words in the output's format (`words`), one to wishes of which one has none (`unformed`),

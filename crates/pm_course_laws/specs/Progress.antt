@@ -15,7 +15,7 @@ use Rattle.pm_model.specs.Settings.{word_at}
 use Rattle.pm_course.specs.declared.course_end.CourseEnd.TheVariants.{Reached}
 use Rattle.pm_world.specs.declared.event.Event.{Event}
 use Rattle.pm_world.specs.Life.{now}
-use Rattle.pm_course_laws.specs.Chains.{EndsBy, FitsPart, IsAskedFor, IsSwitched, Pair, byte_tries, held_fault, tries_for, words_of}
+use Rattle.pm_course_laws.specs.Chains.{EndsBy, FitsPart, IsAskedFor, IsSwitched, Pair, byte_tries, held_fault, tries_for, output_words_of}
 use Rattle.pm_frame.specs.Layout.{is_read_message}
 use Rattle.pm_host.specs.declared.job.Job.{Job as Asked}
 use Rattle.pm_host.specs.declared.stage.Stage.{Stage}
@@ -174,7 +174,7 @@ abbrev pub SurveysThere : Type 0
 SurveysThere = (config : Config) (passes : ℕ) (part : PartRegisters) (limits : List OutputLimits) (output tries : ℕ) (c : FrameCourse)
     (own : Bool) (n : ℕ) (later before : List Event) → IsSpelled config → IsLived config passes (later ++ before) → output < config.count →
     is_busy (now config passes before).host ≡ false →
-    has_register part (selected_register (words_of (now config passes before).device output Operation)) ≡ true → 10 ≤ tries →
+    has_register part (selected_register (output_words_of (now config passes before).device output Operation)) ≡ true → 10 ≤ tries →
     IsUndisturbed config passes part limits (to_survey output tries) before c own n later →
     GetsRead 10 (pair_at part limits config passes before) (pair_at part limits config passes (later ++ before)) c own n
 

@@ -38,9 +38,9 @@ use Rattle.pm_world.specs.declared.event.Event.{Event}
 use Rattle.pm_world.specs.declared.event.Event.TheVariants.{Deliver, Exchange, Finish}
 use Rattle.pm_world.specs.Job.{asked_by}
 use Rattle.pm_world.specs.State.{share_of}
-use Rattle.pm_part_laws.specs.Answers.{restarted_since}
+use Rattle.pm_part_laws.specs.Answers.{restarted_since_beside}
 use Rattle.pm_part_laws.specs.Happenings.{Happening, Happens, Hears, IsLifeBeside, beside}
-use Rattle.pm_course_laws.specs.Chains.{FitsPart, Pair, byte_tries, tries_for, words_of}
+use Rattle.pm_course_laws.specs.Chains.{FitsPart, Pair, byte_tries, tries_for, output_words_of}
 use Rattle.pm_course_laws.specs.FrameLives.{Means, goes_on}
 use Rattle.pm_course_laws.specs.FramesBeside.{IsFrameCourseBeside}
 use Rattle.pm_course_laws.specs.Progress.{GetsRead, GetsSwitched, GetsThere}
@@ -86,8 +86,8 @@ pub data IsUndisturbedBeside (held : Held) (passes : ℕ) (part : PartRegisters)
 -- The part didn't restart since the host's last good answer for each cell that a survey counts as read.
 pub record ReadsStandBeside (held : Held) (passes : ℕ) (v : Survey) (happened : List Happening) : Type 0 where
   pub registers : (register : Reg) → has_read v.read register ≡ true →
-      restarted_since held passes (Out v.output register) happened ≡ false
-  pub protect : v.read.protect ≡ true → restarted_since held passes Protect happened ≡ false
+      restarted_since_beside held passes (Out v.output register) happened ≡ false
+  pub protect : v.read.protect ≡ true → restarted_since_beside held passes Protect happened ≡ false
 
 -- Beside any part, what holds in each life: a course to wishes gets there as it begins (`begins`) and from the middle (`goes_on`), one to a
 -- byte of OPERATION (`switches`), and a survey (`surveys`).
@@ -123,6 +123,6 @@ pub record FrameCoursesGetThereBeside : Type 0 where
   pub surveys : (held : Held) (passes : ℕ) (part : PartRegisters) (limits : List OutputLimits) (output tries : ℕ) (c : FrameCourse)
       (own : Bool) (n : ℕ) (later before : List Happening) → IsLifeBeside held passes (later ++ before) → output < held.config.count →
       is_busy (beside held passes before).host ≡ false →
-      has_register part (selected_register (words_of (beside held passes before).device output Operation)) ≡ true → 10 ≤ tries →
+      has_register part (selected_register (output_words_of (beside held passes before).device output Operation)) ≡ true → 10 ≤ tries →
       IsUndisturbedBeside held passes part limits (to_survey output tries) before c own n later →
       GetsRead 10 (pair_beside part limits held passes before) (pair_beside part limits held passes (later ++ before)) c own n

@@ -18,16 +18,17 @@ use Rattle.pm_course.specs.declared.voltages.Voltages.{Voltages}
 use Rattle.pm_course.specs.FrameCourse.{SaysNext, going_on, last_end}
 use Rattle.pm_world.specs.Bands.{HoldsMissing}
 use Rattle.pm_part_laws.specs.Happenings.{Happening, IsLifeBeside, beside, restarts}
-use Rattle.pm_part_laws.specs.OwnWords.{commands}
-use Rattle.pm_part_laws.specs.Surveys.{AreRead, IsOneValue, MissingUnread, held_at}
+use Rattle.pm_part_laws.specs.OwnWords.{commands_beside}
+use Rattle.pm_part_laws.specs.Surveys.{AreRead, IsOneValue, MissingUnreadBeside, held_at_beside}
 use Rattle.pm_course_laws.specs.FrameLives.{Means}
-use Rattle.pm_course_laws.specs.FramesBeside.{IsFrameCourseBeside, goal_at}
+use Rattle.pm_course_laws.specs.FramesBeside.{IsFrameCourseBeside, goal_at_beside}
 use Rattle.pm_course_laws.specs.ProgressBeside.{ReadsStandBeside}
 
 -- Each wanted word is held (`words`), the output commands what is wanted (`commanded`), and its band has that one value (`one`).
 pub record HoldsWantedBeside (held : Held) (passes : ℕ) (part : PartRegisters) (output : ℕ) (wanted : Wanted) (happened : List Happening) : Type 0 where
-  pub words : (register : Reg) (word : ℕ) → wants_of wanted register ≡ Some word → held_at held passes happened output register ≡ word
-  pub commanded : commands held passes happened output ≡ goal_at held passes output wanted happened
+  pub words : (register : Reg) (word : ℕ) → wants_of wanted register ≡ Some word → held_at_beside held passes happened output register
+      ≡ word
+  pub commanded : commands_beside held passes happened output ≡ goal_at_beside held passes output wanted happened
   pub one : IsSomeAnd (band_at part (beside held passes happened).host output) (λ band. IsOneValue band held passes happened output)
 
 -- Beside any part, what holds in each life: a course to wishes says Reached only where the output is as it is wanted, if the part didn't
@@ -38,7 +39,7 @@ pub record ReachedSinceItReadBeside : Type 0 where
       (voltages : Voltages) (tries : ℕ) (c is : FrameCourse) (own : Bool) (later before : List Happening) →
       IsLifeBeside held passes (later ++ before) → output < held.config.count → Means held.config output words voltages wanted →
       IsFrameCourseBeside held passes part (going_on (course_of output words tries) voltages) before c own later →
-      ReadsStandBeside held passes c.course.survey (later ++ before) → MissingUnread held passes part output (later ++ before) →
+      ReadsStandBeside held passes c.course.survey (later ++ before) → MissingUnreadBeside held passes part output (later ++ before) →
       HoldsMissing part held.config (beside held passes (later ++ before)).device.words output → last_end c.end ≡ None →
       SaysNext part limits (beside held passes (later ++ before)).host c (Ended Reached) is →
       HoldsWantedBeside held passes part output wanted (later ++ before)

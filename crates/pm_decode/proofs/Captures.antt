@@ -23,8 +23,8 @@ use Rattle.pm_trace.specs.{declared.pages.PageUse.TheVariants.Beside, declared.t
 use Rattle.pm_trace.specs.Counts.{counts_of, counted, counts_with, lines_in, one_counted, one_more, total_of}
 use Rattle.pm_trace.specs.Lemmas.Marks.{ended-mark, ended-other, since-mark, since-other}
 use Rattle.pm_trace.specs.Lemmas.Runs.{taken-unmarked, told-append, told-unmarked}
-use Rattle.pm_trace.specs.Lemmas.Said.{counts_of-snoc, enumerate_from-snoc, length-map, length-snoc, lines_at_end}
-use Rattle.pm_trace.specs.Marks.{ended, since}
+use Rattle.pm_trace.specs.Lemmas.Said.{counts_of-snoc, enumerate_from-snoc, length-map, length-snoc, lines_of_at_end}
+use Rattle.pm_trace.specs.Marks.{ended_pieces, since}
 use Rattle.pm_trace.specs.Pages.{Pages, nowhere, pages_by}
 use Rattle.pm_trace.specs.Trace.{Judged, ToldLine, Accepted, Faulty, BadSyntax, BadHex}
 use Rattle.pm_trace.specs.{Otherwise.is_refused, declared.answers.Ones.Ones}
@@ -32,19 +32,20 @@ use Rattle.pm_decode.specs.{Options.notes_comments, declared.comment.Note.Note, 
 use Rattle.pm_decode.specs.{declared.page_steps.Marks.Marks, declared.page_steps.PageStep.PageStep}
 use Rattle.pm_decode.specs.{declared.special.Special.Special, declared.timed_line.TimedLine.TimedLine}
 use Rattle.pm_decode.specs.Lemmas.TimedLines.{timed_of-snoc, timed_passes, timed_says}
-use Rattle.pm_decode.specs.PageSteps.{is_lost, is_received, judged_address, marks_by, marks_in, step_by, step_for, used_by}
+use Rattle.pm_decode.specs.PageSteps.{is_lost, is_received, judged_address, marks_by, marks_in, page_step_by, step_for, used_by}
 use Rattle.pm_decode.specs.Readings.{Entry, Reading, Told, Noted, is_without_pec, judged_as, judged_by, other_address, entries_of}
-use Rattle.pm_decode.specs.Readings.{entry_of, is_heard, is_passed, said_of}
+use Rattle.pm_decode.specs.Readings.{entry_of, is_heard, is_passed, said_of_line}
 use Rattle.pm_decode.specs.TimedLines.{timed_of, head_note, passes_timed, timed_said, PassesTimed, timed_takes}
 use Rattle.pm_decode.specs.JsonText.{key, number_field}
-use Rattle.pm_decode.specs.{Outcome.telling, declared.telling.TellEnd.TellEnd}
+use Rattle.pm_decode.specs.{Outcome.telling_engine, declared.telling.TellEnd.TellEnd}
 use Rattle.pm_decode.specs.CaptureText.{aside_line, line_text, lines_text, read_line, told_line, capture_text, counts_text, empty_by, json_counts, other_lines}
 use Rattle.pm_decode.specs.CaptureText.{plain_counts, totals_line, capture_end}
-use Rattle.pm_decode.specs.Capturing.{IsBounded, Kept, entry_ended, heard_ended, kept_at_end, kept_of, kept_takes, line_ended, next, said}
-use Rattle.pm_decode.specs.Capturing.{said_text, text_ended, told, told_at_end, most_bytes}
-use Rattle.pm_decode.specs.Hearing.{HeardLines, heard_lines, unheard, Heard, Known, answers_read, asides, heard_all, heard_as, heard_aside, heard_of, heard_told, heard_with}
+use Rattle.pm_decode.specs.Capturing.{IsBounded, Kept, entry_ended, heard_ended, capture_at_end, kept_of, capture_takes, capture_line_ended}
+use Rattle.pm_decode.specs.Capturing.{capture_with_bytes, said_in_capture}
+use Rattle.pm_decode.specs.Capturing.{said_text, text_ended, told_of_capture, told_at_capture_end, most_bytes}
+use Rattle.pm_decode.specs.Hearing.{HeardLines, heard_lines, unheard, Heard, Known, answers_read, asides, heard_all, heard_as, heard_aside, heard_in_lines, heard_told, line_heard_with}
 use Rattle.pm_decode.specs.Hearing.{is_aside, known_by, known_from, known_told, more_aside, more_if, more_refused, ones_in, part_seen, refusals, other_code, other_code_in, special_in}
-use Rattle.pm_decode.specs.Hearing.{marks_with, since as time_since, taught_read, told_in, told_unless, unknown, told_end, words_told}
+use Rattle.pm_decode.specs.Hearing.{marks_with, time_since, taught_read, told_in, told_unless, unknown, told_end, words_told}
 use Rattle.pm_decode.specs.Hints.{beyond_by, lacking_by, paging_by, timed_by}
 use Rattle.pm_decode.specs.JsonCounts.{other_jsons, totals_json}
 use Rattle.pm_decode.specs.LongEngine.{IsWhole, LongEnds}
@@ -121,8 +122,8 @@ asides-snoc (first ∷ lines) last = ap (more_aside first) (asides-snoc lines la
 
 -- one line more is heard
 pub heard_of-snoc : (options : TellOptions) (entries : List Entry) (entry : Entry)
-    → heard_of options (entries ++ entry ∷ []) ≡ heard_with options (heard_of options entries) entry
-unfolding heard_of
+    → heard_in_lines options (entries ++ entry ∷ []) ≡ line_heard_with options (heard_in_lines options entries) entry
+unfolding heard_in_lines
 heard_of-snoc options entries entry = λ i. record {
   known = fold-append (known_by options) unknown entries (entry ∷ []) i;
   counts = (ap (λ l. counts_of (filter_map (told_in options.all) l)) (heard_all-snoc options unknown entries entry)
@@ -210,7 +211,7 @@ module _ (options : TellOptions) (heard : HeardLines) (number : ℕ) (time : Opt
   pub seen_told : None ≡ special_in options heard.known (Ok parts)
       → heard_told options number (record { time = time; parts = Ok parts })
       (record heard { known = part_seen options (Ok parts) heard.known })
-      ≡ heard_with options heard (number, Told (record { time = time; parts = Ok parts }))
+      ≡ line_heard_with options heard (number, Told (record { time = time; parts = Ok parts }))
   seen_told none = rw (sym none) refl
 
   pub line_told : (known : Known) → None ≡ special_in options known (Ok parts)
@@ -221,7 +222,7 @@ module _ (options : TellOptions) (heard : HeardLines) (number : ℕ) (time : Opt
   -- otherwise it is set aside
   pub seen_aside : (special : Special) → Some special ≡ special_in options heard.known (Ok parts)
       → heard_aside options number time special (ones_in options heard.known (Ok parts)) (Ok parts) heard
-      ≡ heard_with options heard (number, Told (record { time = time; parts = Ok parts }))
+      ≡ line_heard_with options heard (number, Told (record { time = time; parts = Ok parts }))
   seen_aside special is = rw (sym is) refl
 
   pub line_aside : (special : Special) → Some special ≡ special_in options heard.known (Ok parts)
@@ -231,8 +232,9 @@ module _ (options : TellOptions) (heard : HeardLines) (number : ℕ) (time : Opt
 
 -- a comment is heard by what it says, if comments are noted
 pub comment_heard : (options : TellOptions) (heard : HeardLines) (number : ℕ) (line : TimedLine)
-    → (notes_comments options && line.has_mark) ≡ true → heard_with options heard (number, Noted (head_note line.head))
-    ≡ cond (passes_timed (notes_comments options) line) heard (heard_with options heard (number, timed_said (notes_comments options) line))
+    → (notes_comments options && line.has_mark) ≡ true → line_heard_with options heard (number, Noted (head_note line.head))
+    ≡ cond (passes_timed (notes_comments options) line) heard
+    (line_heard_with options heard (number, timed_said (notes_comments options) line))
 comment_heard options heard number line noted = rw noted refl
 
 -- the text of two lists of lines is that of the first, and that of the second by what is known after the first
@@ -253,7 +255,7 @@ module _ (options : TellOptions) (number : ℕ) (time : Option ℕ) (parts : Tra
       → judged ≡ judged_by options.all ones parts
       → other ≡ other_address options.all ones parts
       → lacks ≡ is_without_pec options.all ones parts
-      → step ≡ step_by options.gap time known.pages lost ones parts judged other
+      → step ≡ page_step_by options.gap time known.pages lost ones parts judged other
       → marks ≡ marks_by ones lacks (Some step)
       → record {
         taught = taught_read options number marks (Ok parts) known.taught;
@@ -278,7 +280,7 @@ module _ (options : TellOptions) (number : ℕ) (time : Option ℕ) (parts : Tra
       → judged ≡ judged_by options.all ones parts
       → other ≡ other_address options.all ones parts
       → lacks ≡ is_without_pec options.all ones parts
-      → step ≡ step_by options.gap time known.pages lost ones parts judged other
+      → step ≡ page_step_by options.gap time known.pages lost ones parts judged other
       → marks ≡ marks_by ones lacks (Some step)
       → marks ≡ marks_in options known.pages known.answers (ones_in options known (Ok parts)) time (Ok parts)
   marks_on_page lost ones lacks judged other step marks pages lost_is ones_is judged_is other_is lacks_is step_is marks_is =
@@ -298,11 +300,12 @@ on_good (Err fault) follows good = tt
 -- a comment was heard, if comments are noted
 pub comment_noted : {E : Type 0} (result : Result (Unit {0}) E) (options : TellOptions) (heard new : HeardLines) (number : ℕ)
     (line : TimedLine) (note : Note) → (notes_comments options && line.has_mark) ≡ true → note ≡ head_note line.head
-    → OnOk result (new ≡ heard_with options heard (number, Noted note))
+    → OnOk result (new ≡ line_heard_with options heard (number, Noted note))
     → OnOk result (new
-    ≡ cond (passes_timed (notes_comments options) line) heard (heard_with options heard (number, timed_said (notes_comments options) line)))
+    ≡ cond (passes_timed (notes_comments options) line) heard
+    (line_heard_with options heard (number, timed_said (notes_comments options) line)))
 comment_noted (Ok done) options heard new number line note noted is heard_is = heard_is
-    ∙ ap (λ r. heard_with options heard (number, Noted r)) is ∙ comment_heard options heard number line noted
+    ∙ ap (λ r. line_heard_with options heard (number, Noted r)) is ∙ comment_heard options heard number line noted
 comment_noted (Err fault) options heard new number line note noted is heard_is = tt
 
 pub comment_gathered : {E : Type 0} (result : Result (Unit {0}) E) (options : TellOptions) (known : Known) (old new : List ℕ) (number : ℕ)
@@ -324,7 +327,7 @@ module _ (options : TellOptions) (number : ℕ) (time : Option ℕ) (parts : Tra
       → judged ≡ judged_by options.all ones parts
       → other ≡ other_address options.all ones parts
       → lacks ≡ is_without_pec options.all ones parts
-      → step ≡ step_by options.gap time self.pages lost ones parts judged other
+      → step ≡ page_step_by options.gap time self.pages lost ones parts judged other
       → marks ≡ marks_by ones lacks (Some step)
       → told ≡ record self {
         taught = taught_read options number marks (Ok parts) self.taught;
@@ -364,7 +367,7 @@ module _ (options : TellOptions) (number : ℕ) (time : Option ℕ) (parts : Tra
       → judged ≡ judged_by options.all ones parts
       → other ≡ other_address options.all ones parts
       → lacks ≡ is_without_pec options.all ones parts
-      → step ≡ step_by options.gap time self.pages lost ones parts judged other
+      → step ≡ page_step_by options.gap time self.pages lost ones parts judged other
       → marks ≡ marks_by ones lacks (Some step)
       → after ≡ before ++ told_line options self.taught (marks_with options self.words marks parts) number (time_since self.first time) (Ok parts)
       → OnOk result (after
@@ -387,7 +390,7 @@ beside_pages number (Some addr) pages = refl
 
 pub beside_is : (gap : ℕ) (time : Option ℕ) (pages : Pages) (lost : Bool) (ones : Ones) (parts : TraceLine) (judged : Judged) (other : Option ℕ)
     → time ≡ None → used_by lost ones parts judged other ≡ Beside
-    → beside_step judged ≡ step_by gap time pages lost ones parts judged other
+    → beside_step judged ≡ page_step_by gap time pages lost ones parts judged other
 beside_is gap time pages lost ones parts judged other time_is used_is =
     sym (λ i. step_for gap (time_is i) pages (judged_address judged) (slice_index parts.write 1) (is_received ones parts) (used_is i))
 
@@ -411,7 +414,7 @@ entry_if passed entry = cond passed [] (entry ∷ [])
 
 -- a line at the end of others is said after what they say, with its number, if something is heard of it
 lines_said-snoc : (options : TellOptions) (lines : List (List ℕ)) (line : List ℕ) → lines_said options (lines ++ line ∷ [])
-    ≡ lines_said options lines ++ entry_if (is_passed (notes_comments options) line) (1 + length lines, said_of options line)
+    ≡ lines_said options lines ++ entry_if (is_passed (notes_comments options) line) (1 + length lines, said_of_line options line)
 lines_said-snoc options lines line =
     ap (λ l. map (entry_of options) (filter heard l)) (enumerate_from-snoc 1 lines line)
     ∙ ap (map (entry_of options)) (filter-append heard (enumerate_from 1 lines) ((1 + length lines, line) ∷ []))
@@ -422,7 +425,7 @@ lines_said-snoc options lines line =
     heard = is_heard (notes_comments options)
 
     by : (c : Bool) → map (entry_of options) (cond (not c) ((1 + length lines, line) ∷ []) [])
-        ≡ entry_if c (1 + length lines, said_of options line)
+        ≡ entry_if c (1 + length lines, said_of_line options line)
     by true = refl
     by false = refl
 
@@ -434,92 +437,94 @@ ended_entries options bytes =
 -- the bytes since the last line feed say, as a line, what the line that goes on says if it ends here
 ended_here : (options : TellOptions) (bytes : List ℕ)
     → entry_if (is_passed (notes_comments options) (without_return (since is_line_feed bytes)))
-    (1 + length (map without_return (ended is_line_feed bytes)), said_of options (without_return (since is_line_feed bytes)))
+    (1 + length (map without_return (ended_pieces is_line_feed bytes)), said_of_line options (without_return (since is_line_feed bytes)))
     ≡ ended_entries options bytes
 unfolding kept_of ended_entries
 ended_here options bytes =
     by (is_passed (notes_comments options) (without_return (since is_line_feed bytes))) refl
     ∙ ap (λ c. entry_if c (entry_ended (kept_of options bytes))) (sym (timed_passes options (since is_line_feed bytes)))
   where
-    count : 1 + length (map without_return (ended is_line_feed bytes)) ≡ length (ended is_line_feed bytes) + 1
-    count = let mapped = length-map (ended is_line_feed bytes) in omega arith
+    count : 1 + length (map without_return (ended_pieces is_line_feed bytes)) ≡ length (ended_pieces is_line_feed bytes) + 1
+    count = let mapped = length-map (ended_pieces is_line_feed bytes) in omega arith
 
     by : (c : Bool) → is_passed (notes_comments options) (without_return (since is_line_feed bytes)) ≡ c
-        → entry_if c (1 + length (map without_return (ended is_line_feed bytes)), said_of options (without_return (since is_line_feed bytes)))
+        → entry_if c (1 + length (map without_return (ended_pieces is_line_feed bytes)), said_of_line options (without_return (since is_line_feed bytes)))
         ≡ entry_if c (entry_ended (kept_of options bytes))
     by true is = refl
     by false is = λ i. (count i, sym (timed_says options (since is_line_feed bytes) is) i) ∷ []
 
 -- what is said with a line feed more
 said-mark : (options : TellOptions) (bytes : List ℕ) (b : ℕ) → is_line_feed b ≡ true
-    → said options (bytes ++ b ∷ []) ≡ said options bytes ++ ended_entries options bytes
-unfolding said
+    → said_in_capture options (bytes ++ b ∷ []) ≡ said_in_capture options bytes ++ ended_entries options bytes
+unfolding said_in_capture
 said-mark options bytes b is =
     ap (λ l. lines_said options (map without_return l)) (ended-mark is_line_feed bytes b is)
-    ∙ ap (lines_said options) (map-append without_return (ended is_line_feed bytes) (since is_line_feed bytes ∷ []))
-    ∙ lines_said-snoc options (map without_return (ended is_line_feed bytes)) (without_return (since is_line_feed bytes))
-    ∙ ap (λ l. lines_said options (map without_return (ended is_line_feed bytes)) ++ l) (ended_here options bytes)
+    ∙ ap (lines_said options) (map-append without_return (ended_pieces is_line_feed bytes) (since is_line_feed bytes ∷ []))
+    ∙ lines_said-snoc options (map without_return (ended_pieces is_line_feed bytes)) (without_return (since is_line_feed bytes))
+    ∙ ap (λ l. lines_said options (map without_return (ended_pieces is_line_feed bytes)) ++ l) (ended_here options bytes)
 
 -- what is said stays the same with a byte more that is no line feed
 said-other : (options : TellOptions) (bytes : List ℕ) (b : ℕ) → is_line_feed b ≡ false
-    → said options (bytes ++ b ∷ []) ≡ said options bytes
-unfolding said
+    → said_in_capture options (bytes ++ b ∷ []) ≡ said_in_capture options bytes
+unfolding said_in_capture
 said-other options bytes b other = ap (λ l. lines_said options (map without_return l)) (ended-other is_line_feed bytes b other)
 
 -- ---- what is kept
 
 -- what was heard so far
-heard_now : (options : TellOptions) (bytes : List ℕ) → (kept_of options bytes).heard ≡ heard_of options (said options bytes)
+heard_now : (options : TellOptions) (bytes : List ℕ) → (kept_of options bytes).heard
+    ≡ heard_in_lines options (said_in_capture options bytes)
 unfolding kept_of
 heard_now options bytes = refl
 
 -- what is heard if the line that goes on ends here
 heard_more : (options : TellOptions) (bytes : List ℕ)
-    → heard_of options (said options bytes ++ ended_entries options bytes) ≡ heard_ended (kept_of options bytes)
+    → heard_in_lines options (said_in_capture options bytes ++ ended_entries options bytes) ≡ heard_ended (kept_of options bytes)
 unfolding ended_entries kept_of
 heard_more options bytes = by (passes_timed (notes_comments options) (kept_of options bytes).line)
   where
     entry : Entry
     entry = entry_ended (kept_of options bytes)
 
-    by : (c : Bool) → heard_of options (said options bytes ++ entry_if c entry)
-        ≡ cond c (heard_of options (said options bytes))
-        (heard_with options (heard_of options (said options bytes)) entry)
-    by true = ap (heard_of options) (append-nil (said options bytes))
-    by false = heard_of-snoc options (said options bytes) entry
+    by : (c : Bool) → heard_in_lines options (said_in_capture options bytes ++ entry_if c entry)
+        ≡ cond c (heard_in_lines options (said_in_capture options bytes))
+        (line_heard_with options (heard_in_lines options (said_in_capture options bytes)) entry)
+    by true = ap (heard_in_lines options) (append-nil (said_in_capture options bytes))
+    by false = heard_of-snoc options (said_in_capture options bytes) entry
 
 -- the text of a line that ends is the one that is written of it
 text_here : (options : TellOptions) (bytes : List ℕ)
-    → lines_text options (known_from options unknown (said options bytes)) (ended_entries options bytes)
+    → lines_text options (known_from options unknown (said_in_capture options bytes)) (ended_entries options bytes)
     ≡ text_ended (kept_of options bytes)
-unfolding ended_entries kept_of heard_of
+unfolding ended_entries kept_of heard_in_lines
 text_here options bytes = by (passes_timed (notes_comments options) (kept_of options bytes).line)
   where
-    by : (c : Bool) → lines_text options (known_from options unknown (said options bytes))
+    by : (c : Bool) → lines_text options (known_from options unknown (said_in_capture options bytes))
         (entry_if c (entry_ended (kept_of options bytes)))
-        ≡ cond c [] (line_text options (known_from options unknown (said options bytes))
+        ≡ cond c [] (line_text options (known_from options unknown (said_in_capture options bytes))
         (entry_ended (kept_of options bytes)))
     by true = refl
-    by false = append-nil (line_text options (known_from options unknown (said options bytes))
+    by false = append-nil (line_text options (known_from options unknown (said_in_capture options bytes))
         (entry_ended (kept_of options bytes)))
 
 -- the text of the line that goes on, if it ends here, is written after that of the lines that ended
 text_more : (options : TellOptions) (bytes : List ℕ)
-    → lines_text options unknown (said options bytes ++ ended_entries options bytes)
+    → lines_text options unknown (said_in_capture options bytes ++ ended_entries options bytes)
     ≡ said_text options bytes ++ text_ended (kept_of options bytes)
 text_more options bytes =
-    lines_text-append options unknown (said options bytes) (ended_entries options bytes)
+    lines_text-append options unknown (said_in_capture options bytes) (ended_entries options bytes)
     ∙ ap (λ l. said_text options bytes ++ l) (text_here options bytes)
 
 -- what is kept with a line feed more
 kept_of-mark : (options : TellOptions) (bytes : List ℕ) (b : ℕ) → is_line_feed b ≡ true
-    → kept_of options (bytes ++ b ∷ []) ≡ record (line_ended (kept_of options bytes)) { taken = length bytes + 1 }
+    → kept_of options (bytes ++ b ∷ []) ≡ record (capture_line_ended (kept_of options bytes)) { taken = length bytes + 1 }
 unfolding kept_of timed_of
 kept_of-mark options bytes b is = λ i. record {
   options = options;
   taken = length-snoc bytes b i;
-  ended = (ap length (ended-mark is_line_feed bytes b is) ∙ length-append (ended is_line_feed bytes) (since is_line_feed bytes ∷ [])) i;
-  heard = (ap (heard_of options) (said-mark options bytes b is) ∙ heard_more options bytes) i;
+  ended =
+      (ap length (ended-mark is_line_feed bytes b is) ∙ length-append (ended_pieces is_line_feed bytes) (since is_line_feed bytes ∷ [])) i;
+  heard = (ap (heard_in_lines options) (said-mark options bytes b is) ∙ heard_more options bytes) i;
   line = timed_of options.times (since-mark is_line_feed bytes b is i);
 }
 
@@ -532,18 +537,19 @@ kept_of-other options bytes b other = λ i. record {
   options = options;
   taken = length-snoc bytes b i;
   ended = length (ended-other is_line_feed bytes b other i);
-  heard = heard_of options (said-other options bytes b other i);
+  heard = heard_in_lines options (said-other options bytes b other i);
   line = (ap (timed_of options.times) (since-other is_line_feed bytes b other) ∙ timed_of-snoc options.times (since is_line_feed bytes) b)
       i;
 }
 
 -- what is kept with one byte more
-kept_of-snoc : (options : TellOptions) (bytes : List ℕ) (b : ℕ) → kept_of options (bytes ++ b ∷ []) ≡ kept_takes (kept_of options bytes) b
-unfolding kept_takes kept_of
+kept_of-snoc : (options : TellOptions) (bytes : List ℕ) (b : ℕ) → kept_of options (bytes ++ b ∷ [])
+    ≡ capture_takes (kept_of options bytes) b
+unfolding capture_takes kept_of
 kept_of-snoc options bytes b = by (is_line_feed b) refl
   where
     by : (c : Bool) → is_line_feed b ≡ c → kept_of options (bytes ++ b ∷ [])
-        ≡ cond c (record (line_ended (kept_of options bytes)) { taken = length bytes + 1 })
+        ≡ cond c (record (capture_line_ended (kept_of options bytes)) { taken = length bytes + 1 })
         (record (kept_of options bytes)
         { taken = length bytes + 1; line = timed_takes (timed_of options.times (since is_line_feed bytes)) b })
     by true is = kept_of-mark options bytes b is
@@ -562,22 +568,23 @@ said_text-snoc options bytes b = by (is_line_feed b) refl
 -- ---- further bytes
 
 -- what is kept with further bytes
-pub kept_of-append : (options : TellOptions) (bytes piece : List ℕ) → kept_of options (bytes ++ piece) ≡ next (kept_of options bytes) piece
+pub kept_of-append : (options : TellOptions) (bytes piece : List ℕ) → kept_of options (bytes ++ piece)
+    ≡ capture_with_bytes (kept_of options bytes) piece
 kept_of-append options bytes [] = ap (kept_of options) (append-nil bytes)
 kept_of-append options bytes (b ∷ piece) =
     ap (kept_of options) (sym (append_assoc bytes (b ∷ []) piece)) ∙ kept_of-append options (bytes ++ b ∷ []) piece
-    ∙ ap (λ k. next k piece) (kept_of-snoc options bytes b)
+    ∙ ap (λ k. capture_with_bytes k piece) (kept_of-snoc options bytes b)
 
 -- what is written of further bytes
 pub said_text-append : (options : TellOptions) (bytes piece : List ℕ)
-    → said_text options (bytes ++ piece) ≡ said_text options bytes ++ told (kept_of options bytes) piece
+    → said_text options (bytes ++ piece) ≡ said_text options bytes ++ told_of_capture (kept_of options bytes) piece
 said_text-append options bytes [] = ap (said_text options) (append-nil bytes) ∙ sym (append-nil (said_text options bytes))
 said_text-append options bytes (b ∷ piece) =
     let here = cond (is_line_feed b) (text_ended (kept_of options bytes)) [] in
     ap (said_text options) (sym (append_assoc bytes (b ∷ []) piece)) ∙ said_text-append options (bytes ++ b ∷ []) piece
-    ∙ ap (λ l. l ++ told (kept_of options (bytes ++ b ∷ [])) piece) (said_text-snoc options bytes b)
-    ∙ append_assoc (said_text options bytes) here (told (kept_of options (bytes ++ b ∷ [])) piece)
-    ∙ ap (λ k. said_text options bytes ++ (here ++ told k piece)) (kept_of-snoc options bytes b)
+    ∙ ap (λ l. l ++ told_of_capture (kept_of options (bytes ++ b ∷ [])) piece) (said_text-snoc options bytes b)
+    ∙ append_assoc (said_text options bytes) here (told_of_capture (kept_of options (bytes ++ b ∷ [])) piece)
+    ∙ ap (λ k. said_text options bytes ++ (here ++ told_of_capture k piece)) (kept_of-snoc options bytes b)
 
 -- ---- bytes without a line feed, and one after them
 
@@ -595,10 +602,10 @@ unfolding kept_at
 none_came kept = let same : kept.taken ≡ kept.taken + 0 = omega arith in ap (λ t. kept_at kept t kept.line) same
 
 -- a byte that is no line feed goes to the line and its time
-one_came : (kept : Kept) (x : ℕ) (xs : List ℕ) → is_line_feed x ≡ false → kept_with (kept_takes kept x) xs ≡ kept_with kept (x ∷ xs)
-unfolding kept_takes kept_at
+one_came : (kept : Kept) (x : ℕ) (xs : List ℕ) → is_line_feed x ≡ false → kept_with (capture_takes kept x) xs ≡ kept_with kept (x ∷ xs)
+unfolding capture_takes kept_at
 one_came kept x xs is =
-    let takes : kept_takes kept x ≡ kept_at kept (kept.taken + 1) (timed_takes kept.line x) = rw is refl in
+    let takes : capture_takes kept x ≡ kept_at kept (kept.taken + 1) (timed_takes kept.line x) = rw is refl in
     let many : kept.taken + 1 + length xs ≡ kept.taken + length (x ∷ xs) = omega arith in
     ap (λ k. kept_with k xs) takes ∙ ap (λ t. kept_at kept t (fold timed_takes (timed_takes kept.line x) xs)) many
 
@@ -610,8 +617,9 @@ unfolding entries_of
 capture_lines options text = refl
 
 -- what is said is that of the lines that ended
-said_lines : (options : TellOptions) (text : List ℕ) → said options text ≡ lines_said options (map without_return (ended is_line_feed text))
-unfolding said
+said_lines : (options : TellOptions) (text : List ℕ) → said_in_capture options text
+    ≡ lines_said options (map without_return (ended_pieces is_line_feed text))
+unfolding said_in_capture
 said_lines options text = refl
 
 -- a line goes on if bytes follow the last line feed
@@ -621,13 +629,13 @@ line_begun options text = refl
 
 -- what is said at the end
 pub entries_at_end : (options : TellOptions) (text : List ℕ) → entries_of options text
-    ≡ said options text ++ cond (has_bytes (since is_line_feed text)) (ended_entries options text) []
+    ≡ said_in_capture options text ++ cond (has_bytes (since is_line_feed text)) (ended_entries options text) []
 entries_at_end options text =
-    capture_lines options text ∙ ap (lines_said options) (lines_at_end text) ∙ by (has_bytes (since is_line_feed text))
+    capture_lines options text ∙ ap (lines_said options) (lines_of_at_end text) ∙ by (has_bytes (since is_line_feed text))
     ∙ ap (λ l. l ++ cond (has_bytes (since is_line_feed text)) (ended_entries options text) []) (sym (said_lines options text))
   where
     lines : List (List ℕ)
-    lines = map without_return (ended is_line_feed text)
+    lines = map without_return (ended_pieces is_line_feed text)
 
     by : (c : Bool) → lines_said options (lines ++ map without_return (cond c (since is_line_feed text ∷ []) []))
         ≡ lines_said options lines ++ cond c (ended_entries options text) []
@@ -638,46 +646,48 @@ entries_at_end options text =
 
 -- what is heard of a whole capture
 pub heard-end : (options : TellOptions) (text : List ℕ)
-    → heard_of options (entries_of options text) ≡ (kept_at_end (kept_of options text)).heard
-heard-end options text = ap (heard_of options) (entries_at_end options text)
+    → heard_in_lines options (entries_of options text) ≡ (capture_at_end (kept_of options text)).heard
+heard-end options text = ap (heard_in_lines options) (entries_at_end options text)
     ∙ by (has_bytes (since is_line_feed text)) (line_begun options text)
   where
     by : (c : Bool) → (kept_of options text).line.is_begun ≡ c
-        → heard_of options (said options text ++ cond c (ended_entries options text) [])
-        ≡ (kept_at_end (kept_of options text)).heard
-    by true is = heard_more options text ∙ sym (ap (λ d. (cond d (line_ended (kept_of options text)) (kept_of options text)).heard) is)
-    by false is = ap (heard_of options) (append-nil (said options text)) ∙ sym (heard_now options text)
-        ∙ sym (ap (λ d. (cond d (line_ended (kept_of options text)) (kept_of options text)).heard) is)
+        → heard_in_lines options (said_in_capture options text ++ cond c (ended_entries options text) [])
+        ≡ (capture_at_end (kept_of options text)).heard
+    by true is = heard_more options text
+        ∙ sym (ap (λ d. (cond d (capture_line_ended (kept_of options text)) (kept_of options text)).heard) is)
+    by false is = ap (heard_in_lines options) (append-nil (said_in_capture options text)) ∙ sym (heard_now options text)
+        ∙ sym (ap (λ d. (cond d (capture_line_ended (kept_of options text)) (kept_of options text)).heard) is)
 
 -- what is written of its lines
 pub lines-end : (options : TellOptions) (text : List ℕ)
-    → lines_text options unknown (entries_of options text) ≡ said_text options text ++ told_at_end (kept_of options text)
+    → lines_text options unknown (entries_of options text) ≡ said_text options text ++ told_at_capture_end (kept_of options text)
 lines-end options text =
     ap (lines_text options unknown) (entries_at_end options text) ∙ by (has_bytes (since is_line_feed text)) (line_begun options text)
   where
     by : (c : Bool) → (kept_of options text).line.is_begun ≡ c
-        → lines_text options unknown (said options text ++ cond c (ended_entries options text) [])
-        ≡ said_text options text ++ told_at_end (kept_of options text)
+        → lines_text options unknown (said_in_capture options text ++ cond c (ended_entries options text) [])
+        ≡ said_text options text ++ told_at_capture_end (kept_of options text)
     by true is = text_more options text ∙ sym (ap (λ d. said_text options text ++ cond d (text_ended (kept_of options text)) []) is)
-    by false is = ap (lines_text options unknown) (append-nil (said options text)) ∙ sym (append-nil (said_text options text))
+    by false is = ap (lines_text options unknown) (append-nil (said_in_capture options text)) ∙ sym (append-nil (said_text options text))
         ∙ sym (ap (λ d. said_text options text ++ cond d (text_ended (kept_of options text)) []) is)
 
 -- what is written of a whole capture
 pub capture_text-end : (options : TellOptions) (text : List ℕ) → capture_text options text
-    ≡ said_text options text ++ (told_at_end (kept_of options text) ++ counts_text options (kept_at_end (kept_of options text)).heard)
+    ≡ said_text options text
+    ++ (told_at_capture_end (kept_of options text) ++ counts_text options (capture_at_end (kept_of options text)).heard)
 unfolding capture_text
 capture_text-end options text =
-    ap (λ l. l ++ counts_text options (heard_of options (entries_of options text))) (lines-end options text)
-    ∙ append_assoc (said_text options text) (told_at_end (kept_of options text))
-    (counts_text options (heard_of options (entries_of options text)))
-    ∙ ap (λ h. said_text options text ++ (told_at_end (kept_of options text) ++ counts_text options h)) (heard-end options text)
+    ap (λ l. l ++ counts_text options (heard_in_lines options (entries_of options text))) (lines-end options text)
+    ∙ append_assoc (said_text options text) (told_at_capture_end (kept_of options text))
+    (counts_text options (heard_in_lines options (entries_of options text)))
+    ∙ ap (λ h. said_text options text ++ (told_at_capture_end (kept_of options text) ++ counts_text options h)) (heard-end options text)
 
 -- ---- how many bytes were taken
 
 -- a byte adds one to the number of bytes taken
-takes-taken : (kept : Kept) (b : ℕ) → (kept_takes kept b).taken ≡ kept.taken + 1
-unfolding kept_takes
-takes-taken kept b = by (is_line_feed b) (record (line_ended kept) { taken = kept.taken + 1 })
+takes-taken : (kept : Kept) (b : ℕ) → (capture_takes kept b).taken ≡ kept.taken + 1
+unfolding capture_takes
+takes-taken kept b = by (is_line_feed b) (record (capture_line_ended kept) { taken = kept.taken + 1 })
     (record kept { taken = kept.taken + 1; line = timed_takes kept.line b }) refl refl
   where
     by : (c : Bool) (one two : Kept) → one.taken ≡ kept.taken + 1 → two.taken ≡ kept.taken + 1 → (cond c one two).taken ≡ kept.taken + 1
@@ -685,9 +695,9 @@ takes-taken kept b = by (is_line_feed b) (record (line_ended kept) { taken = kep
     by false one two first second = second
 
 -- further bytes add their own number to the number of bytes taken
-pub next-taken : (kept : Kept) (bytes : List ℕ) → (next kept bytes).taken ≡ kept.taken + length bytes
+pub next-taken : (kept : Kept) (bytes : List ℕ) → (capture_with_bytes kept bytes).taken ≡ kept.taken + length bytes
 next-taken kept [] = omega arith
-next-taken kept (b ∷ bytes) = let one = takes-taken kept b in let rest = next-taken (kept_takes kept b) bytes in omega arith
+next-taken kept (b ∷ bytes) = let one = takes-taken kept b in let rest = next-taken (capture_takes kept b) bytes in omega arith
 
 -- what is kept of bytes counts each of them as taken
 pub length_kept : (options : TellOptions) (bytes : List ℕ) → (kept_of options bytes).taken ≡ length bytes
@@ -700,10 +710,11 @@ unfolding kept_of
 options_kept options bytes = refl
 
 -- they stay at the end
-pub options_at_end : (options : TellOptions) (bytes : List ℕ) → (kept_at_end (kept_of options bytes)).options ≡ options
+pub options_at_end : (options : TellOptions) (bytes : List ℕ) → (capture_at_end (kept_of options bytes)).options ≡ options
 options_at_end options bytes = by (kept_of options bytes).line.is_begun ∙ options_kept options bytes
   where
-    by : (c : Bool) → (cond c (line_ended (kept_of options bytes)) (kept_of options bytes)).options ≡ (kept_of options bytes).options
+    by : (c : Bool) → (cond c (capture_line_ended (kept_of options bytes)) (kept_of options bytes)).options
+        ≡ (kept_of options bytes).options
     by true = refl
     by false = refl
 
@@ -722,27 +733,28 @@ module _ (old : Kept) (bytes rest : List ℕ) (line : TimedLine) (passes : Passe
       ∙ ap (λ l. record old { taken = old.taken + (length bytes - length rest); line = l }) (sym passes.line)
 
   -- what is kept after the bytes that the line took
-  front_passed : next old passes.front ≡ passed
+  front_passed : capture_with_bytes old passes.front ≡ passed
   front_passed =
-      taken-unmarked is_line_feed kept_takes kept_with none_came one_came old passes.front passes.plain ∙ passed_is
+      taken-unmarked is_line_feed capture_takes kept_with none_came one_came old passes.front passes.plain ∙ passed_is
 
-  next_passed : next old bytes ≡ next passed rest
+  next_passed : capture_with_bytes old bytes ≡ capture_with_bytes passed rest
   next_passed =
-      ap (next old) passes.split ∙ fold-append kept_takes old passes.front rest ∙ ap (λ k. next k rest) front_passed
+      ap (capture_with_bytes old) passes.split ∙ fold-append capture_takes old passes.front rest
+      ∙ ap (λ k. capture_with_bytes k rest) front_passed
 
-  told_passed : told old bytes ≡ told passed rest
+  told_passed : told_of_capture old bytes ≡ told_of_capture passed rest
   told_passed =
-      ap (told old) passes.split ∙ told-append is_line_feed kept_takes text_ended old passes.front rest
-      ∙ ap (λ l. l ++ told (next old passes.front) rest)
-      (told-unmarked is_line_feed kept_takes text_ended old passes.front passes.plain)
-      ∙ ap (λ k. told k rest) front_passed
+      ap (told_of_capture old) passes.split ∙ told-append is_line_feed capture_takes text_ended old passes.front rest
+      ∙ ap (λ l. l ++ told_of_capture (capture_with_bytes old passes.front) rest)
+      (told-unmarked is_line_feed capture_takes text_ended old passes.front passes.plain)
+      ∙ ap (λ k. told_of_capture k rest) front_passed
 
   -- no line feed came
-  pub next_none : length rest < 1 → next old bytes ≡ passed
-  next_none none = next_passed ∙ ap (next passed) (nil_from_length rest (omega arith))
+  pub next_none : length rest < 1 → capture_with_bytes old bytes ≡ passed
+  next_none none = next_passed ∙ ap (capture_with_bytes passed) (nil_from_length rest (omega arith))
 
-  pub told_none : length rest < 1 → told old bytes ≡ []
-  told_none none = told_passed ∙ ap (told passed) (nil_from_length rest (omega arith))
+  pub told_none : length rest < 1 → told_of_capture old bytes ≡ []
+  told_none none = told_passed ∙ ap (told_of_capture passed) (nil_from_length rest (omega arith))
 
   -- what follows the line feed
   abbrev behind : List ℕ
@@ -759,20 +771,22 @@ module _ (old : Kept) (bytes rest : List ℕ) (line : TimedLine) (passes : Passe
       let left : take (length (b ∷ more) - 1) more ≡ more = ap (λ n. take n more) one_less ∙ take_all (length more) more (omega arith) in
       ap (λ n. n ∷ more) feed ∙ ap (λ l. 10 ∷ l) (sym left)
 
-  pub next_ended : IsAtLineFeed rest → 1 ≤ length rest → next old bytes ≡ next (line_ended passed_end) behind
-  unfolding kept_takes
-  next_ended feed some = next_passed ∙ ap (next passed) (split_end rest feed some)
+  pub next_ended : IsAtLineFeed rest → 1 ≤ length rest → capture_with_bytes old bytes
+      ≡ capture_with_bytes (capture_line_ended passed_end) behind
+  unfolding capture_takes
+  next_ended feed some = next_passed ∙ ap (capture_with_bytes passed) (split_end rest feed some)
 
-  pub told_ended : IsAtLineFeed rest → 1 ≤ length rest → told old bytes ≡ text_ended passed_end ++ told (line_ended passed_end) behind
-  unfolding kept_takes
-  told_ended feed some = told_passed ∙ ap (told passed) (split_end rest feed some)
+  pub told_ended : IsAtLineFeed rest → 1 ≤ length rest → told_of_capture old bytes ≡ text_ended passed_end
+      ++ told_of_capture (capture_line_ended passed_end) behind
+  unfolding capture_takes
+  told_ended feed some = told_passed ∙ ap (told_of_capture passed) (split_end rest feed some)
 
 -- What is written of a capture of no bytes.
 
 -- whether options choose JSON or not, and other codes or not, the text of a capture of no bytes is the one for that choice
 pub empty_is : (options : TellOptions) (json all : Bool) → options.json ≡ json → options.all ≡ all
     → empty_by json all ≡ capture_text options []
-unfolding capture_text entries_of lines_of heard_of counts_of plain_counts json_counts totals_line totals_json other_lines
+unfolding capture_text entries_of lines_of heard_in_lines counts_of plain_counts json_counts totals_line totals_json other_lines
     other_jsons number_field key digits
 empty_is options false false json all = rw (json, all) refl
 empty_is options false true json all = rw (json, all) refl
@@ -829,12 +843,12 @@ due_at_fault false result fault whole is = refl
 
 -- no bytes say nothing
 said_none : (options : TellOptions) → said_text options [] ≡ []
-unfolding said
+unfolding said_in_capture
 said_none options = refl
 
 -- a capture of no bytes ends well
 nothing_end : (options : TellOptions) → record { end = Clean; hint = None } ≡ capture_end options []
-unfolding entries_of lines_of heard_of counts_of
+unfolding entries_of lines_of heard_in_lines counts_of
 nothing_end options = refl
 
 -- nothing was read yet
@@ -882,11 +896,11 @@ module _ (options : TellOptions) (r0 r1 w0 w1 : Option (List ℕ)) (bytes text :
       }
 
   -- what the lines of further bytes say
-  lines_more : (piece : List ℕ) → said_text options (bytes ++ piece) ≡ gathered.done ++ (text ++ told old piece)
+  lines_more : (piece : List ℕ) → said_text options (bytes ++ piece) ≡ gathered.done ++ (text ++ told_of_capture old piece)
   lines_more piece =
-      said_text-append options bytes piece ∙ ap (λ l. l ++ told (kept_of options bytes) piece) gathered.parts
-      ∙ append_assoc gathered.done text (told (kept_of options bytes) piece)
-      ∙ ap (λ k. gathered.done ++ (text ++ told k piece)) (sym gathered.kept_is)
+      said_text-append options bytes piece ∙ ap (λ l. l ++ told_of_capture (kept_of options bytes) piece) gathered.parts
+      ∙ append_assoc gathered.done text (told_of_capture (kept_of options bytes) piece)
+      ∙ ap (λ k. gathered.done ++ (text ++ told_of_capture k piece)) (sym gathered.kept_is)
 
   module _ (r2 : Option (List ℕ)) (text' : List ℕ) (new : Kept) where
     parts_more : {count : ℕ} → (hears : Hears r1 r2 text text' old new count)
@@ -901,7 +915,8 @@ module _ (options : TellOptions) (r0 r1 w0 w1 : Option (List ℕ)) (bytes text :
         let most = most_now in
         record {
           given = Consumes-trans r0 r1 r2 bytes hears.bytes gathered.given hears.given;
-          kept_is = hears.kept ∙ ap (λ k. next k hears.bytes) gathered.kept_is ∙ sym (kept_of-append options bytes hears.bytes);
+          kept_is = hears.kept ∙ ap (λ k. capture_with_bytes k hears.bytes) gathered.kept_is
+              ∙ sym (kept_of-append options bytes hears.bytes);
           short = omega (arith, count, most, hears.room, length-append bytes hears.bytes);
           done = gathered.done;
           got = gathered.got;
@@ -937,11 +952,12 @@ module _ (options : TellOptions) (r0 r1 w0 w1 : Option (List ℕ)) (bytes text :
         bytes ++ (front ++ more),
         λ t. absurd (let wrong : TooLong ≡ Read = why.0 t in cc),
         Consumes-trans r0 r1 r2 bytes (front ++ more) gathered.given given,
-        cut_behind (bytes ++ (front ++ more)) (told (next old front) more)
+        cut_behind (bytes ++ (front ++ more)) (told_of_capture (capture_with_bytes old front) more)
             (lines_more (front ++ more)
-            ∙ ap (λ l. gathered.done ++ (text ++ l)) (told-append is_line_feed kept_takes text_ended old front more)
-            ∙ ap (λ l. gathered.done ++ l) (sym (append_assoc text (told old front) (told (next old front) more)))
-            ∙ ap (λ l. gathered.done ++ (l ++ told (next old front) more)) (sym is)) short,
+            ∙ ap (λ l. gathered.done ++ (text ++ l)) (told-append is_line_feed capture_takes text_ended old front more)
+            ∙ ap (λ l. gathered.done ++ l)
+            (sym (append_assoc text (told_of_capture old front) (told_of_capture (capture_with_bytes old front) more)))
+            ∙ ap (λ l. gathered.done ++ (l ++ told_of_capture (capture_with_bytes old front) more)) (sym is)) short,
       )
       cut_off (Err Read) failed hears (given, is) why short =
           let P : List ℕ → Type 0 = λ l. Consumes r0 r2 l in (
@@ -1028,32 +1044,32 @@ module _ (options : TellOptions) (r0 r1 w0 w1 w2 : Option (List ℕ)) (input : L
   options_now = ap (λ k. k.options) written.kept_is ∙ options_kept options input
 
   -- the text of a capture ends with what its end says
-  end_text : (text : List ℕ) → text ≡ told_at_end old ++ counts_text old.options (kept_at_end old).heard
+  end_text : (text : List ℕ) → text ≡ told_at_capture_end old ++ counts_text old.options (capture_at_end old).heard
       → capture_text options input ≡ said_text options input ++ text
   end_text text is =
       capture_text-end options input
-      ∙ ap (λ k. said_text options input ++ (told_at_end k ++ counts_text options (kept_at_end k).heard)) (sym written.kept_is)
-      ∙ ap (λ o. said_text options input ++ (told_at_end old ++ counts_text o (kept_at_end old).heard)) (sym options_now)
+      ∙ ap (λ k. said_text options input ++ (told_at_capture_end k ++ counts_text options (capture_at_end k).heard)) (sym written.kept_is)
+      ∙ ap (λ o. said_text options input ++ (told_at_capture_end old ++ counts_text o (capture_at_end old).heard)) (sym options_now)
       ∙ ap (λ l. said_text options input ++ l) (sym is)
 
   -- the text of a capture was written whole
-  pub end_all : (text : List ℕ) → text ≡ told_at_end old ++ counts_text old.options (kept_at_end old).heard
+  pub end_all : (text : List ℕ) → text ≡ told_at_capture_end old ++ counts_text old.options (capture_at_end old).heard
       → Appends w1 w2 text → Appends w0 w2 (capture_text options input)
   end_all text is appended =
       as_all w0 w2 _ _ (sym (end_text text is)) (Appends-trans w0 w1 w2 (said_text options input) text written.text appended)
 
   -- the last write failed
-  pub end_front : (text : List ℕ) → text ≡ told_at_end old ++ counts_text old.options (kept_at_end old).heard
+  pub end_front : (text : List ℕ) → text ≡ told_at_capture_end old ++ counts_text old.options (capture_at_end old).heard
       → AppendsFront w1 w2 text → AppendsFront w0 w2 (capture_text options input)
   end_front text is short =
       AppendsFront-behind w0 w1 w2 (said_text options input) text [] (capture_text options input) written.text short
       (end_text text is ∙ ap (λ l. said_text options input ++ l) (sym (append-nil text)))
 
   -- how a capture ends follows from its counts
-  pub end_counts : (new : Kept) (end : TellEnd) → new ≡ kept_at_end old → end ≡ told_end new.options new.heard
+  pub end_counts : (new : Kept) (end : TellEnd) → new ≡ capture_at_end old → end ≡ told_end new.options new.heard
       → end ≡ capture_end options input
   end_counts new end kept is =
-      is ∙ ap (λ k. told_end k.options k.heard) (kept ∙ ap kept_at_end written.kept_is)
+      is ∙ ap (λ k. told_end k.options k.heard) (kept ∙ ap capture_at_end written.kept_is)
       ∙ λ i. told_end (options_at_end options input i) (sym (heard-end options input) i)
 
   -- memory was refused at the end of a capture that has bytes
@@ -1099,21 +1115,22 @@ module _ (options : TellOptions) (r0 r1 w0 w1 w2 : Option (List ℕ)) (input : L
 
 -- memory was refused for the first bytes of a piece
 pub stops_memory : (old : Kept) (text new_text bytes part : List ℕ) (room : ℕ) → part ≡ take room bytes
-    → ((rest : List ℕ) × (text ++ told old part ≡ new_text ++ rest)) → 0 < length part
+    → ((rest : List ℕ) × (text ++ told_of_capture old part ≡ new_text ++ rest)) → 0 < length part
     → StopsBytes text new_text old bytes Memory
 stops_memory old text new_text bytes part room is (rest, split) some =
     let more : List ℕ = drop room bytes in
     let whole : bytes ≡ part ++ more = sym (take-append-drop room bytes) ∙ ap (λ l. l ++ more) (sym is) in (
-      rest ++ told (next old part) more,
+      rest ++ told_of_capture (capture_with_bytes old part) more,
       omega (arith, some, ap length whole, length-append part more),
-      ap (λ l. text ++ told old l) whole ∙ ap (λ l. text ++ l) (told-append is_line_feed kept_takes text_ended old part more)
-          ∙ sym (append_assoc text (told old part) (told (next old part) more))
-          ∙ ap (λ l. l ++ told (next old part) more) split ∙ append_assoc new_text rest (told (next old part) more),
+      ap (λ l. text ++ told_of_capture old l) whole ∙ ap (λ l. text ++ l) (told-append is_line_feed capture_takes text_ended old part more)
+          ∙ sym (append_assoc text (told_of_capture old part) (told_of_capture (capture_with_bytes old part) more))
+          ∙ ap (λ l. l ++ told_of_capture (capture_with_bytes old part) more) split
+          ∙ append_assoc new_text rest (told_of_capture (capture_with_bytes old part) more),
     )
 
 -- no more bytes may be taken
 pub stops_too_long : (old : Kept) (text new_text bytes part : List ℕ) (room : ℕ) → part ≡ take room bytes → room < length bytes
-    → old.taken + room ≡ most_bytes old.options.long → new_text ≡ text ++ told old part
+    → old.taken + room ≡ most_bytes old.options.long → new_text ≡ text ++ told_of_capture old part
     → StopsBytes text new_text old bytes TooLong
 stops_too_long old text new_text bytes part room is short full said =
     let more : List ℕ = drop room bytes in
@@ -1145,7 +1162,7 @@ module _ {R W : Type 0} (options : TellOptions) (run : Run R W) (short : options
       let P : ℕ → Type 0 = λ n. length text ≤ n in
       record { given = whole.given; ended = whole.ended; short = subst P most_is whole.short }
 
-  pub as_engine : (result : Result TellEnd TextFault) → Ends options run result → EngineEnds (telling options) run result
+  pub as_engine : (result : Result TellEnd TextFault) → Ends options run result → EngineEnds (telling_engine options) run result
   as_engine (Ok end) (read, sound, input, whole, is, got) = (
     read,
     sound,

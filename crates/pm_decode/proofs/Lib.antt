@@ -1,3 +1,2 @@
-pub mod BesideLemmas
-pub mod Captures
 pub mod Shown
+pub mod Captures

@@ -1,11 +1,11 @@
--- What is shown and counted of a packet, usual or not.
+-- What is shown of a packet and of what stands beside it.
+use Rattle.std.specs.Option.{option_or}
 use Rattle.std.specs.List.{filter_map, enumerate_from}
-use Rattle.std.specs.{Option.option_or}
-use Rattle.std.specs.Prelude.{decimal, flat_map, is_some, nat_lt}
+use Rattle.std.specs.Prelude.{is_some, decimal, flat_map, nat_lt}
 use Rattle.std.proofs.{Math.ListN.set, lemmas.Bool.Decides.nat_tests, lemmas.Result.IfOk-equal}
-use Rattle.std.proofs.Common.{◌≡◌, ◌∙◌, ℕ, ◌+◌, Bool, false, List, [], ◌∷◌, ◌++◌, map, filter, codes, Some, None, Result, Ok, Err, refl}
-use Rattle.std.proofs.Common.{sym, ap, arith, append_assoc, append-nil, inl, inr, subst, ◌≢◌, true, not, ◌||◌, ◌&&◌, cond, eqb, Option}
-use Rattle.std.proofs.Common.{OnOk, true≢false, ◌*◌, ◌/◌, ◌%◌, length, take, get_or, add-one, ◌-◌, ◌<◌, ◌≤◌, ◌^◌, length-append, ltb}
+use Rattle.std.proofs.Common.{◌≡◌, ℕ, Bool, true, false, List, Option, refl, sym, true≢false, ◌∙◌, ◌+◌, [], ◌∷◌, ◌++◌, map, filter, codes}
+use Rattle.std.proofs.Common.{Some, None, Result, Ok, Err, ap, arith, append_assoc, append-nil, inl, inr, subst, ◌≢◌, not, ◌||◌, ◌&&◌, cond}
+use Rattle.std.proofs.Common.{eqb, OnOk, ◌*◌, ◌/◌, ◌%◌, length, take, get_or, add-one, ◌-◌, ◌<◌, ◌≤◌, ◌^◌, length-append, ltb}
 use Rattle.std.proofs.Math.Seq.{take-append_seam, take-length}
 use Rattle.std.proofs.lemmas.Fmt.{decimal_digit, decimal_step}
 use Rattle.pm_table.specs.Codes as command
@@ -21,32 +21,53 @@ use Rattle.pm_lines.specs.{Numbers.hex_byte, declared.fault.TextFault.TextFault}
 use Rattle.pm_lines.specs.Engine.{Engine, EngineEnds, Run}
 use Rattle.pm_lines.specs.Lines.{is_line_feed, is_unskipped, without_return, Numbered, unskipped_from}
 use Rattle.pm_lines.specs.declared.fault.TextFault.TheVariants.{Syntax, BadHex, TooLong, Read, Write, Memory, Setup}
-use Rattle.pm_trace.specs.{Decoding.said as trace_said, Marks.ended, Outcome.decoding, declared.decode_end.DecodeEnd.DecodeEnd}
-use Rattle.pm_trace.specs.{declared.line_fault.LineFault.LineFault, declared.trace_line.TraceLine.TraceLine}
+use Rattle.pm_trace.specs.{Decoding.said as trace_said, Marks.ended_pieces, Outcome.decoding, Pages.is_restore, declared.answers.Ones.Ones}
+use Rattle.pm_trace.specs.{declared.answers.Ones.TheVariants.Answer, declared.decode_end.DecodeEnd.DecodeEnd}
+use Rattle.pm_trace.specs.{declared.formats.GivenFormats.GivenFormats, declared.line_fault.LineFault.LineFault}
+use Rattle.pm_trace.specs.{declared.mode_changes.ModeChange.TheVariants.OfNone, declared.packet.Packet.Packet}
+use Rattle.pm_trace.specs.{declared.pages.PageUse.TheVariants.Beside, declared.trace_line.TraceLine.TraceLine}
 use Rattle.pm_trace.specs.Counts.{counted, counts_of, lines_in, one_counted}
-use Rattle.pm_trace.specs.Trace.{line_read, parts_judged, reading_judged, told_of, trace_of, Judged, Accepted, address_of, answer_judged}
-use Rattle.pm_trace.specs.Trace.{judged_at, read_judged, write_judged, Faulty, BadSyntax, BadHex as TraceBadHex}
-use Rattle.pm_trace.specs.TraceText.{end_of, count_line, counts_text as trace_counts, judged_text, told_line as trace_line, told_lines}
-use Rattle.pm_trace.specs.TraceText.{told_text, totals_line as trace_totals, trace_text, page_text, payload_text}
-use Rattle.pm_trace.specs.TraceText.{plain_text as trace_text_plain_text}
-use Rattle.pm_trace.specs.declared.formats.GivenFormats.{GivenFormats}
-use Rattle.pm_trace.specs.Taught.{Taught, taught_by}
-use Rattle.pm_trace.specs.{declared.answers.Ones.Ones, declared.answers.Ones.TheVariants.Answer, declared.packet.Packet.Packet}
 use Rattle.pm_trace.specs.Otherwise.{is_refused, is_accepted, lacks_pec, IsCompleted, address_otherwise, completed_judged, is_nobody}
 use Rattle.pm_trace.specs.Otherwise.{is_short, judged_with, last_part}
-use Rattle.pm_decode.specs.{declared.options.TellOptions.TellOptions, declared.timed_line.LineReading.LineReading}
-use Rattle.pm_decode.specs.Options.{plain_options, is_plain}
-use Rattle.pm_decode.specs.Readings.{Told, entries_of, entry_of, is_without_pec, judged_by, other_address}
-use Rattle.pm_decode.specs.ShownReadings.{packet_in, parts_in, reading_in}
-use Rattle.pm_decode.specs.{Outcome.telling, declared.telling.TellEnd.TellEnd, declared.usual_line.Usual.Usual}
-use Rattle.pm_decode.specs.CaptureText.{capture_end, capture_text, counts_text, line_text, lines_text, plain_counts, plain_line, told_line}
+use Rattle.pm_trace.specs.Taught.{Taught, changed_by, taught_by}
+use Rattle.pm_trace.specs.Trace.{Accepted, line_read, parts_judged, reading_judged, told_of_line, trace_of, Judged, address_of}
+use Rattle.pm_trace.specs.Trace.{answer_judged}
+use Rattle.pm_trace.specs.Trace.{judged_at, read_judged, write_judged, Faulty, BadSyntax, BadHex as TraceBadHex}
+use Rattle.pm_trace.specs.TraceText.{decode_end_of, count_line, decode_counts_text as trace_counts, judged_text}
+use Rattle.pm_trace.specs.TraceText.{told_line_text as trace_line, told_lines_text}
+use Rattle.pm_trace.specs.TraceText.{told_text, decode_totals_line as trace_totals, trace_text, page_text, payload_text}
+use Rattle.pm_trace.specs.TraceText.{plain_text as trace_text_plain_text}
+use Rattle.pm_decode.specs.{Outcome.telling_engine, declared.options.TellOptions.TellOptions, declared.page_steps.Marks.Marks}
+use Rattle.pm_decode.specs.{declared.telling.TellEnd.TellEnd, declared.timed_line.LineReading.LineReading, declared.usual_line.Usual.Usual}
+use Rattle.pm_decode.specs.CaptureText.{capture_end, capture_text, counts_text, line_text, lines_text, plain_counts, plain_capture_line}
+use Rattle.pm_decode.specs.CaptureText.{told_line}
 use Rattle.pm_decode.specs.CaptureText.{totals_line, other_line, other_lines}
-use Rattle.pm_decode.specs.Capturing.{said, said_text}
-use Rattle.pm_decode.specs.Hearing.{Heard, HeardLines, Known, asides, heard_all, heard_as, heard_of, is_aside, known_by, ones_in, other_code, refusals}
-use Rattle.pm_decode.specs.Hearing.{told_in, unknown, heard_with}
+use Rattle.pm_decode.specs.Capturing.{said_in_capture, said_text}
+use Rattle.pm_decode.specs.Hearing.{Heard, HeardLines, Known, asides, heard_all, heard_as, heard_in_lines, is_aside, known_by, ones_in}
+use Rattle.pm_decode.specs.Hearing.{other_code, refusals, told_in, unknown, line_heard_with, marks_with}
 use Rattle.pm_decode.specs.Hints.{first_if, is_timed}
 use Rattle.pm_decode.specs.JsonCounts.{other_json, other_jsons}
+use Rattle.pm_decode.specs.Options.{plain_options, is_plain}
+use Rattle.pm_decode.specs.PageSteps.{is_received, used_by}
+use Rattle.pm_decode.specs.Readings.{Told, entries_of, entry_of, is_without_pec, judged_by, other_address}
+use Rattle.pm_decode.specs.ShownReadings.{packet_in, parts_in, reading_in_line}
 use Rattle.pm_decode.specs.UsualLines.{IsUsual, code_counted, usual_text}
+use Rattle.pm_decode.specs.Words.{Words, changed_since, word_read}
+
+-- A clear packet that carries its own page says nothing of PAGE, but for RESTORE.
+
+pub named_beside : (ones : Ones) (parts : TraceLine) (addr : ℕ) (message : Message) (answer : Option (List ℕ)) (other : Option ℕ) (lost : Bool)
+    → is_some (message_page message) ≡ true → is_restore (message_code message) ≡ false → is_received ones parts ≡ true
+    → used_by lost ones parts (Accepted addr message answer) other ≡ Beside
+named_beside ones parts addr (PagePlusWrite page code payload) answer other lost is plain clear = rw (clear, plain) refl
+named_beside ones parts addr (PagePlusRead page code) answer other lost is plain clear = rw clear refl
+named_beside ones parts addr (SendByte code) answer other lost is plain clear = absurd (true≢false (sym is))
+named_beside ones parts addr (WriteByte code byte) answer other lost is plain clear = absurd (true≢false (sym is))
+named_beside ones parts addr (WriteWord code word) answer other lost is plain clear = absurd (true≢false (sym is))
+named_beside ones parts addr (ReadCommand code) answer other lost is plain clear = absurd (true≢false (sym is))
+named_beside ones parts addr (ReadCoefficients code side) answer other lost is plain clear = absurd (true≢false (sym is))
+
+-- What is shown and counted of a packet, usual or not.
 
 -- What is shown without options is what is shown of a trace.
 
@@ -68,7 +89,7 @@ made_alone (Ok made) = Ok (made.0, made.1.end)
 made_alone (Err fault) = Err fault
 
 ends_alone : {R W : Type 0} (options : TellOptions) (run : Run R W) (result : Result TellEnd TextFault)
-    → EngineEnds (telling options) run result → EngineEnds (ending options) run (end_alone result)
+    → EngineEnds (telling_engine options) run result → EngineEnds (ending options) run (end_alone result)
 ends_alone options run (Ok told) (read, sound, text, (input, whole, made), got) =
     (read, sound, text, (input, whole, ap made_alone made), got)
 ends_alone options run (Err Write) (failed, text, so_far, inl under_way, cut) = (failed, text, so_far, inl under_way, cut)
@@ -91,7 +112,7 @@ module _ (formats : GivenFormats) (long : Bool) (gap : ℕ) (parts_named muxes :
   -- a line by what it reads as
   pub line_by : (known : Known) (number : ℕ) (parts : Result TraceLine LineFault)
       → line_text plain known (number, Told (record { time = None; parts = parts })) ≡ trace_line (number, reading_judged parts)
-  unfolding told_line plain_line told_text
+  unfolding told_line plain_capture_line told_text
   line_by known number (Ok parts) =
       let text = judged_text number (parts_judged parts.write parts.read) in
       ap (λ l. decimal number ++ ((codes " " ++ l) ++ codes "\n")) (append-nil text)
@@ -101,12 +122,12 @@ module _ (formats : GivenFormats) (long : Bool) (gap : ℕ) (parts_named muxes :
 
   -- lines one after another
   lines_by : (known : Known) (lines : List Numbered)
-      → lines_text plain known (map (entry_of plain) lines) ≡ told_lines (map told_of lines)
+      → lines_text plain known (map (entry_of plain) lines) ≡ told_lines_text (map told_of_line lines)
   lines_by known [] = refl
   lines_by known (line ∷ lines) =
       let rest = known_by plain known (entry_of plain line) in
       ap (λ l. l ++ lines_text plain rest (map (entry_of plain) lines)) (line_by known line.0 (line_read line.1))
-      ∙ ap (λ l. trace_line (told_of line) ++ l) (lines_by rest lines)
+      ∙ ap (λ l. trace_line (told_of_line line) ++ l) (lines_by rest lines)
 
   -- a line as it is heard
   abbrev heard_plain : Known → ℕ → Result TraceLine LineFault → Heard
@@ -131,10 +152,10 @@ module _ (formats : GivenFormats) (long : Bool) (gap : ℕ) (parts_named muxes :
 
   -- what is shown of the lines
   as_told : (known : Known) (lines : List Numbered)
-      → filter_map (told_in false) (heard_all plain known (map (entry_of plain) lines)) ≡ map told_of lines
+      → filter_map (told_in false) (heard_all plain known (map (entry_of plain) lines)) ≡ map told_of_line lines
   as_told known [] = refl
   as_told known (line ∷ lines) = rw (told_plain known line.0 (line_read line.1))
-      (ap (λ l. told_of line ∷ l) (as_told (known_by plain known (entry_of plain line)) lines))
+      (ap (λ l. told_of_line line ∷ l) (as_told (known_by plain known (entry_of plain line)) lines))
 
   -- none was refused, nor set aside
   one_taken : (known : Known) (parts : Result TraceLine LineFault) → is_refused (ones_in plain known parts) ≡ false
@@ -155,20 +176,20 @@ module _ (formats : GivenFormats) (long : Bool) (gap : ℕ) (parts_named muxes :
   none_aside known (line ∷ lines) =
       rw (one_kept known line.0 (line_read line.1)) (none_aside (known_by plain known (entry_of plain line)) lines)
 
-  heard_by : (lines : List Numbered) → (heard_of plain (map (entry_of plain) lines)).counts ≡ counts_of (map told_of lines)
-  unfolding heard_of
+  heard_by : (lines : List Numbered) → (heard_in_lines plain (map (entry_of plain) lines)).counts ≡ counts_of (map told_of_line lines)
+  unfolding heard_in_lines
   heard_by lines = ap counts_of (as_told unknown lines)
 
-  others_by : (lines : List Numbered) → (heard_of plain (map (entry_of plain) lines)).others ≡ []
-  unfolding heard_of
+  others_by : (lines : List Numbered) → (heard_in_lines plain (map (entry_of plain) lines)).others ≡ []
+  unfolding heard_in_lines
   others_by lines = ap counted (no_codes unknown lines)
 
-  taken_by : (lines : List Numbered) → (heard_of plain (map (entry_of plain) lines)).refused ≡ 0
-  unfolding heard_of
+  taken_by : (lines : List Numbered) → (heard_in_lines plain (map (entry_of plain) lines)).refused ≡ 0
+  unfolding heard_in_lines
   taken_by lines = none_refused unknown lines
 
-  kept_by : (lines : List Numbered) → (heard_of plain (map (entry_of plain) lines)).special ≡ 0
-  unfolding heard_of
+  kept_by : (lines : List Numbered) → (heard_in_lines plain (map (entry_of plain) lines)).special ≡ 0
+  unfolding heard_in_lines
   kept_by lines = none_aside unknown lines
 
   -- the counts
@@ -188,18 +209,18 @@ module _ (formats : GivenFormats) (long : Bool) (gap : ℕ) (parts_named muxes :
   unfolding capture_text trace_text entries_of trace_of unskipped_from
   plain_text text =
       let lines = unskipped_from 1 text in
-      ap (λ l. l ++ counts_text plain (heard_of plain (map (entry_of plain) lines))) (lines_by unknown lines)
-      ∙ ap (λ l. told_lines (map told_of lines) ++ l) (counts_by (heard_of plain (map (entry_of plain) lines)) (others_by lines) (taken_by lines) (kept_by lines))
-      ∙ ap (λ c. told_lines (map told_of lines) ++ trace_counts c) (heard_by lines)
+      ap (λ l. l ++ counts_text plain (heard_in_lines plain (map (entry_of plain) lines))) (lines_by unknown lines)
+      ∙ ap (λ l. told_lines_text (map told_of_line lines) ++ l) (counts_by (heard_in_lines plain (map (entry_of plain) lines)) (others_by lines) (taken_by lines) (kept_by lines))
+      ∙ ap (λ c. told_lines_text (map told_of_line lines) ++ trace_counts c) (heard_by lines)
 
   -- the lines that ended
-  said_by : (text : List ℕ) → said_text plain text ≡ told_lines (trace_said text)
-  unfolding said trace_said
-  said_by text = lines_by unknown (filter is_unskipped (enumerate_from 1 (map without_return (ended is_line_feed text))))
+  said_by : (text : List ℕ) → said_text plain text ≡ told_lines_text (trace_said text)
+  unfolding said_in_capture trace_said
+  said_by text = lines_by unknown (filter is_unskipped (enumerate_from 1 (map without_return (ended_pieces is_line_feed text))))
 
-  end_by : (text : List ℕ) → (capture_end plain text).end ≡ end_of (counts_of (trace_of text))
+  end_by : (text : List ℕ) → (capture_end plain text).end ≡ decode_end_of (counts_of (trace_of text))
   unfolding entries_of trace_of unskipped_from
-  end_by text = ap end_of (heard_by (unskipped_from 1 text))
+  end_by text = ap decode_end_of (heard_by (unskipped_from 1 text))
 
   -- a telling without options is the engine that decodes
   plain_engine : ending plain ≡ decoding
@@ -210,7 +231,7 @@ module _ (formats : GivenFormats) (long : Bool) (gap : ℕ) (parts_named muxes :
 
   -- it ends as that engine does
   pub plain_ends : {R W : Type 0} (run : Run R W) (result : Result TellEnd TextFault)
-      → EngineEnds (telling plain) run result → EngineEnds decoding run (end_alone result)
+      → EngineEnds (telling_engine plain) run result → EngineEnds decoding run (end_alone result)
   plain_ends run result ends =
       subst (λ (engine : Engine DecodeEnd). EngineEnds engine run (end_alone result)) plain_engine (ends_alone plain run result ends)
 
@@ -326,13 +347,13 @@ usual_told options known number usual parts plain is =
     ∙ ap (λ o. line_text o known (number, Told (record { time = None; parts = Ok parts }))) (plain_is options plain)
 
 -- a packet without a time leaves the first one
-no_time : (first : Option ℕ) → option_or first None ≡ first
+pub no_time : (first : Option ℕ) → option_or first None ≡ first
 no_time None = refl
 no_time (Some time) = refl
 
 pub usual_heard : (options : TellOptions) (heard : HeardLines) (number : ℕ) (usual : Usual) (parts : TraceLine) → is_plain options ≡ true
     → IsUsual usual (parts_judged parts.write parts.read) → record heard { counts = code_counted heard.counts usual.code }
-    ≡ heard_with options heard (number, Told (record { time = None; parts = Ok parts }))
+    ≡ line_heard_with options heard (number, Told (record { time = None; parts = Ok parts }))
 usual_heard options heard number usual parts plain is =
     let lacks : Bool = lacks_pec Answer parts.write parts.read in
     let kept = ap (λ c. cond c heard.known.lacking (heard.known.lacking && lacks)) is.good in
@@ -355,13 +376,13 @@ usual_heard options heard number usual parts plain is =
       others = heard.others;
       refused = heard.refused;
       special = heard.special;
-    }) ∙ ap (λ o. heard_with o heard (number, Told (record { time = None; parts = Ok parts }))) (plain_is options plain)
+    }) ∙ ap (λ o. line_heard_with o heard (number, Told (record { time = None; parts = Ok parts }))) (plain_is options plain)
 
 -- a usual line by what it reads as
 pub usual_told_in : (options : TellOptions) (known : Known) (number : ℕ) (usual : Usual) (line : LineReading) (packet : Packet)
     → is_plain options ≡ true → line.time ≡ None → line.packet ≡ Ok packet
     → IsUsual usual (parts_judged (packet_in packet).write (packet_in packet).read)
-    → decimal number ++ (codes " " ++ (usual_text usual ++ codes "\n")) ≡ line_text options known (number, Told (reading_in line))
+    → decimal number ++ (codes " " ++ (usual_text usual ++ codes "\n")) ≡ line_text options known (number, Told (reading_in_line line))
 usual_told_in options known number usual line packet plain time read is =
     usual_told options known number usual (packet_in packet) plain is
     ∙ λ i. line_text options known (number, Told (record { time = sym time i; parts = parts_in (sym read i) }))
@@ -624,6 +645,28 @@ pub usual_said : (all : Bool) (ones : Ones) (write : List ℕ) (read : Option (L
     → parts_judged write read ≡ judged_by all ones (record { write = write; read = read })
 usual_said false ones write read lacks = refl
 usual_said true ones write read lacks = sym (left (lacks_pec ones write read) (completed_judged write read) (parts_judged write read) lacks)
+
+-- one that is good and has its PEC is good as it is
+pub whole_good : (all : Bool) (ones : Ones) (write : List ℕ) (read : Option (List ℕ)) (judged : Judged)
+    → is_without_pec all ones (record { write = write; read = read }) ≡ false
+    → judged ≡ judged_by all ones (record { write = write; read = read }) → is_accepted judged ≡ true
+    → is_accepted (parts_judged write read) ≡ true
+whole_good all ones write read judged lacks is good = ap is_accepted (usual_said all ones write read lacks ∙ sym is) ∙ good
+
+-- without words that changed a packet has the marks that it has
+pub unchanged : (options : TellOptions) (words : Words) (marks : Marks) (parts : TraceLine) → options.explain ≡ false → marks.changed ≡ None
+    → marks ≡ marks_with options words marks parts
+unchanged options words marks parts plain none =
+    (λ i. record marks { changed = none i })
+    ∙ ap (λ e. record marks {
+      changed = changed_since words (cond e (word_read words marks
+          (other_address options.all marks.ones parts) (judged_by options.all marks.ones parts) parts) None);
+    }) (sym plain)
+
+-- a packet that changes no mode leaves what was taught
+pub none_changed : (number : ℕ) (addr : Option ℕ) (taught : Taught) → changed_by number addr OfNone taught ≡ taught
+none_changed number None taught = refl
+none_changed number (Some addr) taught = refl
 
 -- ---- a packet that is good, or of those that are shown as the command table has them
 

@@ -19,7 +19,7 @@ use Rattle.pm_frame.specs.declared.message.Message.{Message}
 use Rattle.pm_trace.specs.Taught.{Taught, is_assumed}
 use Rattle.pm_trace.specs.ValueText.{known_text}
 use Rattle.pm_trace.specs.Values.{packet_value}
-use Rattle.pm_decode.specs.Hearing.{HeardLines, Known, heard_lines, heard_of, known_by, marks_shown, ones_in, seen_as, since, told_end, unknown}
+use Rattle.pm_decode.specs.Hearing.{HeardLines, Known, heard_lines, heard_in_lines, known_by, marks_shown, ones_in, seen_as, time_since, told_end, unknown}
 use Rattle.pm_decode.specs.JsonText.{address_field, judged_fields, lack_field, marks_fields, other_fields, other_payload_by, received_field, signed_field_if, text_field}
 use Rattle.pm_decode.specs.JsonCounts.{count_json, other_jsons, totals_json}
 use Rattle.pm_decode.specs.PageSteps.{marks_in}
@@ -150,8 +150,8 @@ reading_text options taught marks number time (Ok parts) =
 reading_text options taught marks number time (Err fault) = codes " " ++ judged_text number (reading_judged (Err fault))
 
 -- a line as it is shown to a person
-unfoldable pub plain_line : TellOptions → Taught → Marks → ℕ → Option ℤ → Result TraceLine LineFault → List ℕ
-plain_line options taught marks number time parts = decimal number
+unfoldable pub plain_capture_line : TellOptions → Taught → Marks → ℕ → Option ℤ → Result TraceLine LineFault → List ℕ
+plain_capture_line options taught marks number time parts = decimal number
     ++ (reading_text options taught marks number time parts ++ codes "\n")
 
 -- a packet as fields of JSON
@@ -176,7 +176,7 @@ json_line options taught marks number time parts = codes "{\"line\":" ++ (decima
 -- a line with a line feed, by what the lines before it taught, and by its marks
 unfoldable pub told_line : TellOptions → Taught → Marks → ℕ → Option ℤ → Result TraceLine LineFault → List ℕ
 told_line options taught marks number time parts = if options.json
-    then json_line options taught marks number time parts else plain_line options taught marks number time parts
+    then json_line options taught marks number time parts else plain_capture_line options taught marks number time parts
 
 -- ---- a packet whose address is no part's
 
@@ -226,7 +226,7 @@ failed_line json number time why = if json then json_failed number time why else
 abbrev pub failed_text : TellOptions → Option ℕ → ℕ → Option Failure → List ℕ
 failed_text options first number None = []
 failed_text options first number (Some failure) =
-    failed_line options.json number (if options.times then since first failure.time else None) failure.why
+    failed_line options.json number (if options.times then time_since first failure.time else None) failure.why
 
 abbrev pub noted_line : TellOptions → Option ℕ → ℕ → Option Failure → List ℕ
 noted_line options first number failure = if options.explain then failed_text options first number failure else []
@@ -236,13 +236,13 @@ noted_line options first number failure = if options.explain then failed_text op
 -- what is written of a packet to a part, by what is known before it
 abbrev pub read_line : TellOptions → Known → ℕ → Option ℕ → Result TraceLine LineFault → List ℕ
 read_line options known number time parts = told_line options known.taught (marks_shown options known.words
-    (marks_in options known.pages known.answers (ones_in options known parts) time parts) parts) number (since known.first time) parts
+    (marks_in options known.pages known.answers (ones_in options known parts) time parts) parts) number (time_since known.first time) parts
 
 -- what is written of a line by what is known before it: of a comment only that a transfer failed
 abbrev pub said_line : TellOptions → Known → ℕ → Said → List ℕ
 said_line options known number (Told reading) = read_line options known number reading.time reading.parts
 said_line options known number (Aside special reading) =
-    aside_line options.json special (ones_in options known reading.parts) number (since known.first reading.time) reading.parts
+    aside_line options.json special (ones_in options known reading.parts) number (time_since known.first reading.time) reading.parts
 said_line options known number (Noted note) = noted_line options known.first number note.failure
 
 abbrev pub line_text : TellOptions → Known → Entry → List ℕ
@@ -307,7 +307,7 @@ counts_text options heard = if options.json then json_counts options.all heard e
 -- what is written of a capture
 unfoldable pub capture_text : TellOptions → List ℕ → List ℕ
 capture_text options text = lines_text options unknown (entries_of options text)
-    ++ counts_text options (heard_of options (entries_of options text))
+    ++ counts_text options (heard_in_lines options (entries_of options text))
 
 -- what is written of one without bytes, by whether it is shown as JSON, and whether other codes are shown
 abbrev pub empty_by : Bool → Bool → List ℕ
@@ -318,4 +318,4 @@ empty_by true true = codes "{\"lines\":0,\"accepted\":0,\"other\":0,\"faults\":0
 
 -- how it ends: there are bad lines, or none, and what may be wrong
 abbrev pub capture_end : TellOptions → List ℕ → TellEnd
-capture_end options text = told_end options (heard_of options (entries_of options text))
+capture_end options text = told_end options (heard_in_lines options (entries_of options text))

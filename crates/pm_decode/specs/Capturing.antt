@@ -1,13 +1,14 @@
 -- What is kept of the bytes of a capture that were taken, and what was said of the lines that ended: `kept_of` and
--- `said_text`, a look back over all bytes, and `next` and `told`, what further bytes make of it. This project's own
+-- `said_text`, a look back over all bytes, and `capture_with_bytes` and `told_of_capture`, what further bytes make of it. This project's
+-- own
 -- choice.
 use Rattle.std.specs.Prelude.{ℕ, ◌+◌, ◌-◌, ◌^◌, ◌≤◌, Bool, if◌then◌else◌, List, [], length, map, filter}
 use Rattle.std.specs.List.{enumerate_from, fold}
 use Rattle.pm_lines.specs.Lines.{is_line_feed, without_return}
 use Rattle.pm_lines.specs.Streams.{max_text}
-use Rattle.pm_trace.specs.Marks.{ended, since, told_at_marks}
+use Rattle.pm_trace.specs.Marks.{ended_pieces, since, told_at_marks}
 use Rattle.pm_decode.specs.CaptureText.{line_text, lines_text}
-use Rattle.pm_decode.specs.Hearing.{HeardLines, heard_lines, heard_of, heard_with, unknown}
+use Rattle.pm_decode.specs.Hearing.{HeardLines, heard_lines, heard_in_lines, line_heard_with, unknown}
 use Rattle.pm_decode.specs.Options.{notes_comments}
 use Rattle.pm_decode.specs.Readings.{Entry, entry_of, is_heard}
 use Rattle.pm_decode.specs.TimedLines.{passes_timed, timed_of, timed_said, timed_takes}
@@ -26,21 +27,21 @@ pub record Kept : Type 0 where
   pub line : TimedLine
 
 -- the lines that a line feed ended, those that say nothing apart
-unfoldable pub said : TellOptions → List ℕ → List Entry
-said options bytes = map (entry_of options) (filter (is_heard (notes_comments options))
-    (enumerate_from 1 (map without_return (ended is_line_feed bytes))))
+unfoldable pub said_in_capture : TellOptions → List ℕ → List Entry
+said_in_capture options bytes = map (entry_of options) (filter (is_heard (notes_comments options))
+    (enumerate_from 1 (map without_return (ended_pieces is_line_feed bytes))))
 
 -- what is written of them
 abbrev pub said_text : TellOptions → List ℕ → List ℕ
-said_text options bytes = lines_text options unknown (said options bytes)
+said_text options bytes = lines_text options unknown (said_in_capture options bytes)
 
 -- what is kept of these bytes
 unfoldable pub kept_of : TellOptions → List ℕ → Kept
 kept_of options bytes = record {
   options = options;
   taken = length bytes;
-  ended = length (ended is_line_feed bytes);
-  heard = heard_of options (said options bytes);
+  ended = length (ended_pieces is_line_feed bytes);
+  heard = heard_in_lines options (said_in_capture options bytes);
   line = timed_of options.times (since is_line_feed bytes);
 }
 
@@ -53,15 +54,15 @@ entry_ended kept = (kept.ended + 1, timed_said (notes_comments kept.options) kep
 -- what is heard if a line ends here, and what is written of it
 abbrev pub heard_ended : Kept → HeardLines
 heard_ended kept = if passes_timed (notes_comments kept.options) kept.line then kept.heard
-    else heard_with kept.options kept.heard (entry_ended kept)
+    else line_heard_with kept.options kept.heard (entry_ended kept)
 
 abbrev pub text_ended : Kept → List ℕ
 text_ended kept = if passes_timed (notes_comments kept.options) kept.line then []
     else line_text kept.options kept.heard.known (entry_ended kept)
 
 -- what is kept if a line ends here
-abbrev pub line_ended : Kept → Kept
-line_ended kept = record {
+abbrev pub capture_line_ended : Kept → Kept
+capture_line_ended kept = record {
   options = kept.options;
   taken = kept.taken;
   ended = kept.ended + 1;
@@ -70,25 +71,25 @@ line_ended kept = record {
 }
 
 -- one byte more
-unfoldable pub kept_takes : Kept → ℕ → Kept
-kept_takes kept byte = if is_line_feed byte
-    then record (line_ended kept) { taken = kept.taken + 1 }
+unfoldable pub capture_takes : Kept → ℕ → Kept
+capture_takes kept byte = if is_line_feed byte
+    then record (capture_line_ended kept) { taken = kept.taken + 1 }
     else record kept { taken = kept.taken + 1; line = timed_takes kept.line byte }
 
 -- further bytes
-abbrev pub next : Kept → List ℕ → Kept
-next kept bytes = fold kept_takes kept bytes
+abbrev pub capture_with_bytes : Kept → List ℕ → Kept
+capture_with_bytes kept bytes = fold capture_takes kept bytes
 
 -- what is written of the lines that end within further bytes
-abbrev pub told : Kept → List ℕ → List ℕ
-told kept bytes = told_at_marks is_line_feed kept_takes text_ended kept bytes
+abbrev pub told_of_capture : Kept → List ℕ → List ℕ
+told_of_capture kept bytes = told_at_marks is_line_feed capture_takes text_ended kept bytes
 
 -- the end of all bytes, which ends a line that has some
-abbrev pub kept_at_end : Kept → Kept
-kept_at_end kept = if kept.line.is_begun then line_ended kept else kept
+abbrev pub capture_at_end : Kept → Kept
+capture_at_end kept = if kept.line.is_begun then capture_line_ended kept else kept
 
-abbrev pub told_at_end : Kept → List ℕ
-told_at_end kept = if kept.line.is_begun then text_ended kept else []
+abbrev pub told_at_capture_end : Kept → List ℕ
+told_at_capture_end kept = if kept.line.is_begun then text_ended kept else []
 
 -- ---- bounds
 

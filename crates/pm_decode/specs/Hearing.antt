@@ -6,11 +6,11 @@ use Rattle.std.specs.Option.{option_or}
 use Rattle.pm_trace.specs.Counts.{Counts, counted, counts_of, counts_with, lines_in, one_more, total_of}
 use Rattle.pm_trace.specs.Pages.{Pages, lost_in, no_pages, pages_shown}
 use Rattle.pm_trace.specs.Trace.{Judged, ToldLine, parts_judged}
-use Rattle.pm_trace.specs.TraceText.{end_of}
+use Rattle.pm_trace.specs.TraceText.{decode_end_of}
 use Rattle.pm_trace.specs.declared.line_fault.LineFault.{LineFault}
 use Rattle.pm_trace.specs.declared.trace_line.TraceLine.{TraceLine}
 use Rattle.pm_trace.specs.Answers.{Answers, answered_by, answers_by, none_heard, ones_of}
-use Rattle.pm_trace.specs.Otherwise.{content_of, is_accepted, is_answer, is_refused}
+use Rattle.pm_trace.specs.Otherwise.{content_of, is_accepted, ones_are_answer, is_refused}
 use Rattle.pm_trace.specs.declared.answers.Ones.{Ones}
 use Rattle.pm_trace.specs.declared.answers.Ones.TheVariants.{Answer, Refused}
 use Rattle.pm_trace.specs.declared.answers.Refusal.{Refusal}
@@ -99,7 +99,7 @@ taught_over options number marks parts taught = if options.values
 -- a refused packet teaches nothing, nor does an answer that may be nobody's, or a packet that is marked; behind a line that can't be
 -- read no mode is known
 abbrev pub taught_read : TellOptions → ℕ → Marks → Result TraceLine LineFault → Taught → Taught
-taught_read options number marks (Ok parts) taught = if not (is_answer marks.ones) || is_some marks.wrong
+taught_read options number marks (Ok parts) taught = if not (ones_are_answer marks.ones) || is_some marks.wrong
     then taught_over options number marks parts taught
     else taught_by number marks.reached (taught_over options number marks parts taught) (judged_by options.all marks.ones parts)
 taught_read options number marks (Err fault) taught = taught_lost number taught
@@ -125,9 +125,9 @@ lacking_read all (Ok parts) lacking = lacking_by all parts lacking
 lacking_read all (Err fault) lacking = lacking
 
 -- the first line that begins with its time
-abbrev pub timed_read : TellOptions → ℕ → Result TraceLine LineFault → Option ℕ → Option ℕ
-timed_read options number (Ok parts) before = timed_by options number parts before
-timed_read options number (Err fault) before = before
+abbrev pub first_timed_line : TellOptions → ℕ → Result TraceLine LineFault → Option ℕ → Option ℕ
+first_timed_line options number (Ok parts) before = timed_by options number parts before
+first_timed_line options number (Err fault) before = before
 
 -- the time of the first packet
 abbrev pub first_read : Option ℕ → Result TraceLine LineFault → Option ℕ → Option ℕ
@@ -165,7 +165,7 @@ known_told options number time ones parts known = record {
   refused = if notes_comments options then None else known.refused;
   paging = paging_by options number (judged_as options.all ones parts) known.paging;
   lacking = lacking_read options.all parts known.lacking;
-  timed = timed_read options number parts known.timed;
+  timed = first_timed_line options number parts known.timed;
   first = first_read time parts known.first;
   words = words_read options number (marks_in options known.pages known.answers ones time parts) parts known.words;
   parts = known.parts;
@@ -259,18 +259,19 @@ parts_aside number special (Err fault) known = known
 abbrev pub known_aside : TellOptions → ℕ → Special → Option ℕ → Result TraceLine LineFault → Known → Known
 known_aside options number special time parts known = record (parts_aside number special parts known) {
   refused = None;
-  timed = timed_read options number parts known.timed;
+  timed = first_timed_line options number parts known.timed;
   first = first_read time parts known.first;
 }
 
 -- a packet to a part: its address may answer as a part does
-abbrev pub part_at : TellOptions → Known → TraceLine → Option ℕ → Addresses
-part_at options known parts None = known.parts
-part_at options known parts (Some addr) = if is_some (kept_for addr)
+abbrev pub parts_after_packet : TellOptions → Known → TraceLine → Option ℕ → Addresses
+parts_after_packet options known parts None = known.parts
+parts_after_packet options known parts (Some addr) = if is_some (kept_for addr)
     && shows_part options.all (ones_in options known (Ok parts)) parts then with_address addr known.parts else known.parts
 
 abbrev pub parts_with : TellOptions → Known → Result TraceLine LineFault → Addresses
-parts_with options known (Ok parts) = if notes_comments options then part_at options known parts (written_to parts.write) else known.parts
+parts_with options known (Ok parts) = if notes_comments options then parts_after_packet options known parts (written_to parts.write)
+    else known.parts
 parts_with options known (Err fault) = known.parts
 
 abbrev pub part_seen : TellOptions → Result TraceLine LineFault → Known → Known
@@ -292,9 +293,9 @@ abbrev pub known_from : TellOptions → Known → List Entry → Known
 known_from options known entries = fold (known_by options) known entries
 
 -- a time, counted from the first one
-abbrev pub since : Option ℕ → Option ℕ → Option ℤ
-since first None = None
-since first (Some time) = Some (pos time -ℤ pos (unwrap_or first time))
+abbrev pub time_since : Option ℕ → Option ℕ → Option ℤ
+time_since first None = None
+time_since first (Some time) = Some (pos time -ℤ pos (unwrap_or first time))
 
 -- ---- how a line is counted
 
@@ -382,8 +383,8 @@ pub record HeardLines : Type 0 where
   pub special : ℕ
 
 -- what is known after these lines
-unfoldable pub heard_of : TellOptions → List Entry → HeardLines
-heard_of options entries = record {
+unfoldable pub heard_in_lines : TellOptions → List Entry → HeardLines
+heard_in_lines options entries = record {
   known = known_from options unknown entries;
   counts = counts_of (filter_map (told_in options.all) (heard_all options unknown entries));
   others = counted (filter_map (other_code options.all) (heard_all options unknown entries));
@@ -405,8 +406,8 @@ abbrev pub more_if : List (ℕ × ℕ) → Option ℕ → List (ℕ × ℕ)
 more_if others None = others
 more_if others (Some code) = one_more others code
 
-abbrev pub heard_with : TellOptions → HeardLines → Entry → HeardLines
-heard_with options heard entry = record {
+abbrev pub line_heard_with : TellOptions → HeardLines → Entry → HeardLines
+line_heard_with options heard entry = record {
   known = known_by options heard.known entry;
   counts = counts_with heard.counts (told_in options.all (heard_as options heard.known entry));
   others = more_if heard.others (other_code options.all (heard_as options heard.known entry));
@@ -482,4 +483,4 @@ hint_by options heard = hint_from (first_hint heard.known.beyond heard.known.tim
 
 -- how a capture ends of which this was heard
 abbrev pub told_end : TellOptions → HeardLines → TellEnd
-told_end options heard = record { end = end_of heard.counts; hint = hint_by options heard }
+told_end options heard = record { end = decode_end_of heard.counts; hint = hint_by options heard }

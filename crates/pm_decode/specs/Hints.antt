@@ -46,12 +46,12 @@ abbrev pub is_huge_order : GivenFormats → Taught → ℕ → Option ℕ → Me
 is_huge_order given taught addr reached message = is_huge (packet_value given taught addr reached message None)
     && not (is_some (packet_value (record { vout = replicate 8 None; readings = given.readings }) taught addr reached message None))
 
-abbrev pub is_beyond : GivenFormats → Taught → Option ℕ → Judged → Bool
-is_beyond given taught reached (Accepted addr message None) = is_huge_order given taught addr reached message
-is_beyond given taught reached (Accepted addr message (Some answer)) = false
-is_beyond given taught reached (Faulty addr is_read fault) = false
-is_beyond given taught reached BadSyntax = false
-is_beyond given taught reached BadHex = false
+abbrev pub is_order_beyond : GivenFormats → Taught → Option ℕ → Judged → Bool
+is_order_beyond given taught reached (Accepted addr message None) = is_huge_order given taught addr reached message
+is_order_beyond given taught reached (Accepted addr message (Some answer)) = false
+is_order_beyond given taught reached (Faulty addr is_read fault) = false
+is_order_beyond given taught reached BadSyntax = false
+is_order_beyond given taught reached BadHex = false
 
 -- the first line of such an order, after the one of this number
 abbrev pub first_if : Option ℕ → Bool → ℕ → Option ℕ
@@ -63,12 +63,13 @@ abbrev pub has_entry : List (Option GivenFormat) → Bool
 has_entry [] = false
 has_entry (entry ∷ entries) = is_some entry
 
-abbrev pub has_vout : GivenFormats → Bool
-has_vout given = has_entry given.vout
+abbrev pub has_vout_format : GivenFormats → Bool
+has_vout_format given = has_entry given.vout
 
 abbrev pub beyond_by : TellOptions → Taught → Option ℕ → ℕ → Judged → Option ℕ → Option ℕ
 beyond_by options taught reached number judged before =
-    if options.values && has_vout options.formats then first_if before (is_beyond options.formats taught reached judged) number else before
+    if options.values && has_vout_format options.formats then first_if before (is_order_beyond options.formats taught reached judged) number
+    else before
 
 -- ---- outputs
 

@@ -22,7 +22,7 @@ use Rattle.pm_decode.specs.declared.page_steps.Marks.{Marks}
 use Rattle.pm_trace.specs.declared.otherwise.Otherwise.{Otherwise}
 use Rattle.pm_trace.specs.Statuses.{names_from, rows_of}
 use Rattle.pm_trace.specs.Taught.{Taught, is_assumed}
-use Rattle.pm_trace.specs.ValueText.{capability_text, decimal_of, mode_text, on_off_text, operation_text, protection_text, relative_text, revision_text}
+use Rattle.pm_trace.specs.ValueText.{capability_text, millionths_text, mode_text, on_off_text, operation_text, protection_text, relative_text, revision_text}
 use Rattle.pm_trace.specs.Values.{carried, millionths, other_value, packet_value}
 use Rattle.pm_trace.specs.declared.formats.GivenFormats.{GivenFormats}
 use Rattle.pm_trace.specs.declared.value.Unit.{Unit as MeasureUnit}
@@ -83,7 +83,7 @@ fraction_by num den = signed_field (codes "numerator") num ++ signed_field (code
 
 -- a fraction rounded down to a millionth
 unfoldable pub rounded_field : Ratio → MeasureUnit → List ℕ
-rounded_field ratio unit = key (unit_key unit) ++ decimal_of (millionths ratio)
+rounded_field ratio unit = key (unit_key unit) ++ millionths_text (millionths ratio)
 
 abbrev pub value_fields : Value → List ℕ
 value_fields (Measured ratio unit) = fraction_by ratio.num (pos ratio.den) ++ rounded_field ratio unit

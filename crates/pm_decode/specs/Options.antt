@@ -42,12 +42,12 @@ plain_options formats long gap parts muxes = record {
 }
 
 -- no format is given
-abbrev pub no_formats : GivenFormats
-no_formats = record { vout = replicate 8 None; readings = replicate 8 None }
+abbrev pub no_formats_given : GivenFormats
+no_formats_given = record { vout = replicate 8 None; readings = replicate 8 None }
 
 -- no option is given
 abbrev pub no_options : TellOptions
-no_options = plain_options no_formats false 0 unnamed unnamed
+no_options = plain_options no_formats_given false 0 unnamed unnamed
 
 -- an option changes what is shown, and comments are noted
 abbrev pub notes_comments : TellOptions → Bool

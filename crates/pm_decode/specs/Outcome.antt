@@ -8,8 +8,8 @@ use Rattle.pm_decode.specs.declared.options.TellOptions.{TellOptions}
 
 -- a telling as an engine: no capture is refused for what it says, and the lines that ended are written before the next
 -- ones are read
-abbrev pub telling : TellOptions → Engine TellEnd
-telling options = record {
+abbrev pub telling_engine : TellOptions → Engine TellEnd
+telling_engine options = record {
   whole = λ input. Ok (capture_text options input, capture_end options input);
   early = Some (λ front. said_text options front);
 }

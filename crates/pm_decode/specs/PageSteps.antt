@@ -1,7 +1,7 @@
 -- PAGE followed through a capture: what is known of the address of a packet as it comes, and what the packet is marked with.
 -- What ends a page is this project's own choice.
 use Rattle.std.specs.Prelude.{ℕ, Bool, true, false, not, ◌&&◌, ◌||◌, if◌then◌else◌, is_some, length, nat_le, slice_index, List, [], ◌∷◌, Option, Some, None, Result, Ok, Err}
-use Rattle.pm_trace.specs.Pages.{Pages, contradicted, is_forbidden, is_paging, lost_in, nowhere, output_of, pages_by, phase_of, place_in, touch_of, unclear_use, use_of}
+use Rattle.pm_trace.specs.Pages.{Pages, contradicted, is_forbidden, is_paging, lost_in, nowhere, output_by_use, pages_by, phase_of, place_in, touch_of, unclear_use, use_of}
 use Rattle.pm_trace.specs.Trace.{Judged, Accepted, Faulty, BadSyntax, BadHex}
 use Rattle.pm_trace.specs.declared.line_fault.LineFault.{LineFault}
 use Rattle.pm_trace.specs.declared.pages.PageLine.{PageLine}
@@ -10,7 +10,7 @@ use Rattle.pm_trace.specs.declared.pages.PageUse.TheVariants.{Written, ReadBack,
 use Rattle.pm_trace.specs.declared.pages.Place.{Place}
 use Rattle.pm_trace.specs.declared.trace_line.TraceLine.{TraceLine}
 use Rattle.pm_trace.specs.Answers.{Answers, has_answered}
-use Rattle.pm_trace.specs.Otherwise.{has_pec, is_answer, is_nobody, is_refused}
+use Rattle.pm_trace.specs.Otherwise.{has_pec, ones_are_answer, is_nobody, is_refused}
 use Rattle.pm_trace.specs.declared.answers.Ones.{Ones}
 use Rattle.pm_trace.specs.Modes.{change_of}
 use Rattle.pm_trace.specs.declared.mode_changes.ModeChange.{ModeChange}
@@ -43,7 +43,7 @@ is_unanswered ones parts = is_nobody ones || is_empty_answer parts.read
 
 -- a packet is clear, if it is shown as good or by its code and bytes: somebody answered, or took it
 abbrev pub is_received : Ones → TraceLine → Bool
-is_received ones parts = is_answer ones && not (is_empty_answer parts.read)
+is_received ones parts = ones_are_answer ones && not (is_empty_answer parts.read)
 
 -- nobody answered a code that its address answered before, or took
 abbrev pub is_lost : Answers → Ones → TraceLine → Bool
@@ -68,16 +68,16 @@ place_for (ReadBack page) gap time pages addr = place_by gap time pages addr
 place_for (Failed writes) gap time pages addr = place_by gap time pages addr
 
 -- a part that took or answered a packet of PAGE that isn't clear has PAGE
-abbrev pub hears : Bool → PageUse → Bool
-hears received (Failed writes) = received
-hears received (Written page) = false
-hears received (ReadBack page) = false
-hears received Restored = false
-hears received (Protects all) = false
-hears received (SetsPhase number) = false
-hears received Lost = false
-hears received OfOutput = false
-hears received Beside = false
+abbrev pub still_receives : Bool → PageUse → Bool
+still_receives received (Failed writes) = received
+still_receives received (Written page) = false
+still_receives received (ReadBack page) = false
+still_receives received Restored = false
+still_receives received (Protects all) = false
+still_receives received (SetsPhase number) = false
+still_receives received Lost = false
+still_receives received OfOutput = false
+still_receives received Beside = false
 
 abbrev pub heard_if : Bool → Place → Place
 heard_if heard place = if heard then record place { heard = true } else place
@@ -85,7 +85,7 @@ heard_if heard place = if heard then record place { heard = true } else place
 abbrev pub step_for : ℕ → Option ℕ → Pages → Option ℕ → ℕ → Bool → PageUse → PageStep
 step_for gap time pages addr code received used = record {
   addr = addr;
-  place = heard_if (hears received used) (place_for used gap time pages addr);
+  place = heard_if (still_receives received used) (place_for used gap time pages addr);
   used = used;
   phase = phase_of (place_for used gap time pages addr) code used;
 }
@@ -96,13 +96,14 @@ abbrev pub used_by : Bool → Ones → TraceLine → Judged → Option ℕ → P
 used_by lost ones parts judged other = use_of parts.write (is_some parts.read) (is_received ones parts) lost (is_some other) judged
 
 -- the address of a packet that comes at a time, what is known of it, and what the packet says of its page
-abbrev pub step_by : ℕ → Option ℕ → Pages → Bool → Ones → TraceLine → Judged → Option ℕ → PageStep
-step_by gap time pages lost ones parts judged other =
+abbrev pub page_step_by : ℕ → Option ℕ → Pages → Bool → Ones → TraceLine → Judged → Option ℕ → PageStep
+page_step_by gap time pages lost ones parts judged other =
     step_for gap time pages (judged_address judged) (slice_index parts.write 1) (is_received ones parts) (used_by lost ones parts judged other)
 
 -- what is known of PAGE, if PAGE is followed
-abbrev pub step_of : TellOptions → Pages → Answers → Ones → Option ℕ → TraceLine → Option PageStep
-step_of options pages answers ones time parts = if options.pages then Some (step_by options.gap time pages (is_lost answers ones parts)
+abbrev pub page_step_of : TellOptions → Pages → Answers → Ones → Option ℕ → TraceLine → Option PageStep
+page_step_of options pages answers ones time parts = if options.pages
+    then Some (page_step_by options.gap time pages (is_lost answers ones parts)
     ones parts (judged_by options.all ones parts) (other_address options.all ones parts)) else None
 
 -- ---- what it is marked with
@@ -118,16 +119,16 @@ sure_page place = sure_page_by place.page place.failed
 
 -- the part may have restarted: a packet reads another page than the one that was written last, and `wrong` is the line that it
 -- contradicts, or nobody answered what was answered before
-abbrev pub is_restart : PageUse → Option ℕ → Bool
-is_restart (ReadBack page) wrong = is_some wrong
-is_restart Lost wrong = true
-is_restart (Written page) wrong = false
-is_restart (Failed writes) wrong = false
-is_restart Restored wrong = false
-is_restart (Protects all) wrong = false
-is_restart (SetsPhase number) wrong = false
-is_restart OfOutput wrong = false
-is_restart Beside wrong = false
+abbrev pub is_page_restart : PageUse → Option ℕ → Bool
+is_page_restart (ReadBack page) wrong = is_some wrong
+is_page_restart Lost wrong = true
+is_page_restart (Written page) wrong = false
+is_page_restart (Failed writes) wrong = false
+is_page_restart Restored wrong = false
+is_page_restart (Protects all) wrong = false
+is_page_restart (SetsPhase number) wrong = false
+is_page_restart OfOutput wrong = false
+is_page_restart Beside wrong = false
 
 -- the marks of a packet: how it was received, whether it lacks its PEC, the output that it reaches if it names none, and the line that
 -- it contradicts
@@ -146,10 +147,10 @@ marks_by ones lacks None = record {
 marks_by ones lacks (Some step) = record {
   ones = ones;
   lacks = lacks;
-  reached = output_of step.place step.used;
+  reached = output_by_use step.place step.used;
   wrong = contradicted step.place step.used;
   page = sure_page step.place;
-  is_restart = is_restart step.used (contradicted step.place step.used);
+  is_restart = is_page_restart step.used (contradicted step.place step.used);
   is_forbidden = is_forbidden step.place step.used;
   phase = step.phase;
   changed = None;
@@ -173,13 +174,13 @@ change_by marks other judged parts =
 abbrev pub shows_pages : Ones → TraceLine → Bool
 shows_pages ones parts = is_paging parts.write (is_some parts.read && is_received ones parts)
 
-abbrev pub marks_of : TellOptions → Pages → Answers → Ones → Option ℕ → TraceLine → Marks
-marks_of options pages answers ones time parts =
-    marks_by ones (is_without_pec options.all ones parts) (step_of options pages answers ones time parts)
+abbrev pub packet_marks : TellOptions → Pages → Answers → Ones → Option ℕ → TraceLine → Marks
+packet_marks options pages answers ones time parts =
+    marks_by ones (is_without_pec options.all ones parts) (page_step_of options pages answers ones time parts)
 
 -- a line that can't be read has no mark
 abbrev pub marks_in : TellOptions → Pages → Answers → Ones → Option ℕ → Result TraceLine LineFault → Marks
-marks_in options pages answers ones time (Ok parts) = marks_of options pages answers ones time parts
+marks_in options pages answers ones time (Ok parts) = packet_marks options pages answers ones time parts
 marks_in options pages answers ones time (Err fault) = marks_by ones false None
 
 -- ---- after it
@@ -192,7 +193,7 @@ pages_at number (Some step) pages = pages_by number step.addr step.place step.us
 -- what is known of pages after a line that isn't skipped
 abbrev pub pages_read : TellOptions → ℕ → Answers → Ones → Option ℕ → Result TraceLine LineFault → Pages → Pages
 pages_read options number answers ones time (Ok parts) pages =
-    pages_at number (step_of options pages answers ones time parts) pages
+    pages_at number (page_step_of options pages answers ones time parts) pages
 pages_read options number answers ones time (Err fault) pages = lost_in number pages
 
 -- ---- a packet that a comment shows

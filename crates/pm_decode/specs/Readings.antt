@@ -67,9 +67,9 @@ timed None parts = record { time = None; parts = Err fault.Syntax }
 timed (Some time) parts = record { time = Some time; parts = parts }
 
 -- a line of a capture with times, or without
-abbrev pub reading_of : Bool → List ℕ → Reading
-reading_of true line = timed (time_in (first_word line)) (line_read (behind_word line))
-reading_of false line = record { time = None; parts = line_read line }
+abbrev pub line_reading_of : Bool → List ℕ → Reading
+line_reading_of true line = timed (time_in (first_word line)) (line_read (behind_word line))
+line_reading_of false line = record { time = None; parts = line_read line }
 
 -- ---- a comment
 
@@ -166,8 +166,8 @@ refusal_by (Some shown) = if starts_with nat_eq shown.1 (codes "wasn't acknowled
     then Refuses (record { place = shown.0; of_answer = true }) else Elsewhere)
 
 -- packets are missing, or a transfer had more than two parts, or a second one of another device
-abbrev pub is_missing : List ℕ → Bool
-is_missing text = starts_with nat_eq text (codes "# the kernel dropped events")
+abbrev pub are_packets_missing : List ℕ → Bool
+are_packets_missing text = starts_with nat_eq text (codes "# the kernel dropped events")
     || (starts_with nat_eq text (codes "# the kernel shows ") || (starts_with nat_eq text (codes "# the capture shows ")
     || (starts_with nat_eq text (codes "# the second part is no read")
     || (starts_with nat_eq (drop 3 text) (codes " parts: ") || starts_with nat_eq (drop 4 text) (codes " parts: ")))))
@@ -181,7 +181,7 @@ is_packet_comment text = starts_with nat_eq text (codes "# no stop: ")
 -- what a comment says, as `pmhost capture` writes them, by its first bytes
 abbrev pub remark_in : List ℕ → Remark
 remark_in text = if starts_with nat_eq text (codes "# byte ") then refusal_by (number_shown 1000 0 (drop 7 text))
-    else (if is_missing text then Loss
+    else (if are_packets_missing text then Loss
     else (if starts_with nat_eq text (codes "# failed") then transfer_shown true (behind_colon text)
     else (if is_packet_comment text then transfer_shown false (behind_colon text) else Elsewhere)))
 
@@ -230,15 +230,16 @@ pub data Said : Type 0 where
   Aside : Special → Reading → Said
   Noted : Note → Said
 
-abbrev pub said_of : TellOptions → List ℕ → Said
-said_of options line = if is_noted (notes_comments options) line then Noted (note_of line) else Told (reading_of options.times line)
+abbrev pub said_of_line : TellOptions → List ℕ → Said
+said_of_line options line = if is_noted (notes_comments options) line then Noted (note_of line)
+    else Told (line_reading_of options.times line)
 
 -- a line's number, and what the line says
 abbrev pub Entry : Type 0
 Entry = ℕ × Said
 
 abbrev pub entry_of : TellOptions → Numbered → Entry
-entry_of options numbered = (numbered.0, said_of options numbered.1)
+entry_of options numbered = (numbered.0, said_of_line options numbered.1)
 
 -- a line says nothing: it is skipped, and it isn't noted
 abbrev pub is_passed : Bool → List ℕ → Bool

@@ -13,5 +13,5 @@ packet_in packet = record { write = packet.write.now; read = option_map (λ byte
 abbrev pub parts_in : Result Packet LineFault → Result TraceLine LineFault
 parts_in packet = result_map_both packet_in (λ fault. fault) packet
 
-abbrev pub reading_in : LineReading → Reading
-reading_in line = record { time = line.time; parts = parts_in line.packet }
+abbrev pub reading_in_line : LineReading → Reading
+reading_in_line line = record { time = line.time; parts = parts_in line.packet }

@@ -3,7 +3,7 @@
 use Rattle.std.specs.Prelude.{◌≡◌, ℕ, Bool, true, false, not, ◌&&◌, ◌||◌, ◌==◌, nat_lt, if◌then◌else◌, List, [], ◌∷◌, ◌++◌, length, take, None}
 use Rattle.std.specs.List.{fold, list_any}
 use Rattle.pm_lines.specs.Lines.{has_bytes, is_line_feed, is_space, without_return}
-use Rattle.pm_trace.specs.OpenLines.{is_skipped_kind, line_of, line_takes, open_read}
+use Rattle.pm_trace.specs.OpenLines.{is_skipped_kind, open_line_of, line_takes, open_read}
 use Rattle.pm_trace.specs.Parts.{part_of, part_takes}
 use Rattle.pm_decode.specs.Readings.{Reading, Said, Told, Noted, behind_word, first_word, is_comment, note_in, time_in, timed}
 use Rattle.pm_decode.specs.declared.comment.Note.{Note}
@@ -23,7 +23,7 @@ timed_of times line = record {
   is_over = if times then has_bytes (behind_word (own_bytes line)) else true;
   head = if is_comment line then take 64 line else [];
   word = part_of (if times then first_word (own_bytes line) else []);
-  packet = line_of (if times then behind_word (own_bytes line) else own_bytes line);
+  packet = open_line_of (if times then behind_word (own_bytes line) else own_bytes line);
 }
 
 -- a byte is the packet's own: lines have no time, or a space ended the word, or ends it
@@ -31,8 +31,8 @@ abbrev pub is_of_packet : TimedLine → ℕ → Bool
 is_of_packet line byte = line.is_over || (is_space byte && has_bytes line.word.bytes)
 
 -- there is a byte, and this one is the first if there was none. 35 is `#`.
-abbrev pub begun_with : TimedLine → ℕ → TimedLine
-begun_with line byte = record line {
+abbrev pub line_begun_with : TimedLine → ℕ → TimedLine
+line_begun_with line byte = record line {
   has_mark = if line.is_begun then line.has_mark else byte == 35;
   is_begun = true;
 }
@@ -42,16 +42,16 @@ abbrev pub head_takes : List ℕ → ℕ → List ℕ
 head_takes head byte = if nat_lt (length head) 64 then head ++ byte ∷ [] else head
 
 -- a comment goes on
-abbrev pub goes_on : TimedLine → Bool
-goes_on line = line.is_begun && line.has_mark
+abbrev pub comment_goes_on : TimedLine → Bool
+comment_goes_on line = line.is_begun && line.has_mark
 
 -- a comment's first bytes are kept: further ones say nothing more
-abbrev pub is_told : TimedLine → Bool
-is_told line = line.is_begun && (line.has_mark && not (nat_lt (length line.head) 64))
+abbrev pub is_comment_full : TimedLine → Bool
+is_comment_full line = line.is_begun && (line.has_mark && not (nat_lt (length line.head) 64))
 
 -- one byte more, of a line that isn't a comment yet
-abbrev pub plain_takes : TimedLine → ℕ → TimedLine
-plain_takes line byte = record {
+abbrev pub plain_line_takes : TimedLine → ℕ → TimedLine
+plain_line_takes line byte = record {
   times = line.times;
   has_mark = if line.is_begun then line.has_mark else byte == 35;
   is_begun = true;
@@ -63,7 +63,7 @@ plain_takes line byte = record {
 
 -- one byte more
 unfoldable pub timed_takes : TimedLine → ℕ → TimedLine
-timed_takes line byte = if goes_on line then record line { head = head_takes line.head byte } else plain_takes line byte
+timed_takes line byte = if comment_goes_on line then record line { head = head_takes line.head byte } else plain_line_takes line byte
 
 -- ---- if the line ends here
 

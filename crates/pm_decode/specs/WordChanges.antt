@@ -26,15 +26,15 @@ reaches_all addr = addr == 0x00 || addr == 0x37
 
 -- ---- what a packet may write
 
-unfoldable pub change_by : Option ℕ → ℕ → Bool → WordChange
-change_by named code has_data = if is_of_memory code then change.OfMemory
+unfoldable pub word_change_by : Option ℕ → ℕ → Bool → WordChange
+word_change_by named code has_data = if is_of_memory code then change.OfMemory
     else (if has_data && is_watched code then change.OfWord named code else change.Nothing)
 
 -- What a write part may change, whatever fault it has. PAGE_PLUS_WRITE names the page and the code that it carries.
 abbrev pub word_change : List ℕ → WordChange
 word_change (addr ∷ code ∷ rest) = if code == command.page_plus_write
-    then change_by (Some (slice_index rest 1)) (slice_index rest 2) (nat_lt 3 (length rest))
-    else change_by None code (nat_lt 0 (length rest))
+    then word_change_by (Some (slice_index rest 1)) (slice_index rest 2) (nat_lt 3 (length rest))
+    else word_change_by None code (nat_lt 0 (length rest))
 word_change write = change.Nothing
 
 abbrev pub is_change : WordChange → Bool
@@ -49,8 +49,8 @@ end_of_word is_clear code (Some page) = if is_clear && (not (page == 0xFF) && no
     then end.OfOutput page code else end.OfCode code
 
 -- what a packet ends: `is_to_all` is whether it is a general call or a write to a zone, `page` the one that plain packets reach
-abbrev pub end_by : Bool → Bool → Bool → Option ℕ → WordChange → WordEnd
-end_by is_restart is_to_all is_clear page change.Nothing = if is_restart then end.OfAll else end.OfNone
-end_by is_restart is_to_all is_clear page change.OfMemory = if is_to_all then end.OfEach else end.OfAll
-end_by is_restart is_to_all is_clear page (change.OfWord named code) =
+abbrev pub word_end_by : Bool → Bool → Bool → Option ℕ → WordChange → WordEnd
+word_end_by is_restart is_to_all is_clear page change.Nothing = if is_restart then end.OfAll else end.OfNone
+word_end_by is_restart is_to_all is_clear page change.OfMemory = if is_to_all then end.OfEach else end.OfAll
+word_end_by is_restart is_to_all is_clear page (change.OfWord named code) =
     if is_to_all then end.OfEach else (if is_restart then end.OfAll else end_of_word is_clear code (option_or named page))

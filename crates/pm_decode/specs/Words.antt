@@ -11,7 +11,7 @@ use Rattle.pm_trace.specs.Otherwise.{ContentBytes, content, content_of}
 use Rattle.pm_trace.specs.Modes.{key_of}
 use Rattle.pm_decode.specs.PageSteps.{is_clear, is_received, shows_pages}
 use Rattle.pm_decode.specs.Readings.{is_told}
-use Rattle.pm_decode.specs.WordChanges.{end_by, is_change, is_watched, reaches_all, word_change}
+use Rattle.pm_decode.specs.WordChanges.{word_end_by, is_change, is_watched, reaches_all, word_change}
 use Rattle.pm_decode.specs.declared.comment.ShownPacket.{ShownPacket}
 use Rattle.pm_decode.specs.declared.page_steps.Marks.{Marks}
 use Rattle.pm_decode.specs.declared.word_change.WordEnd.{WordEnd}
@@ -49,12 +49,12 @@ paged_by addr has_pages words = if has_pages then record words { paged = insert_
 abbrev pub word_said : ℕ → ℕ → Option Word → Words → Words
 word_said line key word words = record words { said = insert_entry nat_eq words.said key (record { word = word; line = line }) }
 
-abbrev pub ended_by : ℕ → ℕ → WordEnd → Words → Words
-ended_by line addr end.OfNone words = words
-ended_by line addr (end.OfOutput page code) words = word_said line (word_key addr page code) None words
-ended_by line addr (end.OfCode code) words = record words { written = insert_entry nat_eq words.written (key_of addr code) line }
-ended_by line addr end.OfAll words = record words { changed = insert_entry nat_eq words.changed addr line }
-ended_by line addr end.OfEach words = words_lost line words
+abbrev pub words_ended_by : ℕ → ℕ → WordEnd → Words → Words
+words_ended_by line addr end.OfNone words = words
+words_ended_by line addr (end.OfOutput page code) words = word_said line (word_key addr page code) None words
+words_ended_by line addr (end.OfCode code) words = record words { written = insert_entry nat_eq words.written (key_of addr code) line }
+words_ended_by line addr end.OfAll words = record words { changed = insert_entry nat_eq words.changed addr line }
+words_ended_by line addr end.OfEach words = words_lost line words
 
 -- ---- a read
 
@@ -64,9 +64,9 @@ word_of (low ∷ []) = Some (record { low = low; high = None })
 word_of (low ∷ high ∷ []) = Some (record { low = low; high = Some high })
 word_of bytes = None
 
-abbrev pub word_in : Option (List ℕ) → Option Word
-word_in None = None
-word_in (Some answer) = word_of answer
+abbrev pub word_in_answer : Option (List ℕ) → Option Word
+word_in_answer None = None
+word_in_answer (Some answer) = word_of answer
 
 -- FFh is no single output
 abbrev pub single : Option ℕ → Option ℕ
@@ -86,7 +86,7 @@ read_at addr code (Some page) (Some word) = Some (record { addr = addr; page = p
 abbrev pub content_read : Words → ℕ → Option ℕ → ContentBytes → Option WordRead
 content_read words addr reached content = if is_watched content.code && length content.written == 0
     then read_at addr content.code (output_read (is_some (lookup (nat_eq addr) words.paged)) reached content.code content.page)
-    (word_in content.answer) else None
+    (word_in_answer content.answer) else None
 
 -- what a packet carries, as the command table has it or by its code and bytes
 abbrev pub content_shown : Judged → TraceLine → ContentBytes
@@ -109,9 +109,9 @@ is_other_high (Some before) (Some high) is_other_low = is_other_low || not (befo
 is_other_high None (Some high) is_other_low = false
 is_other_high (Some before) None is_other_low = false
 
-abbrev pub is_other : Option Word → Word → Bool
-is_other None word = false
-is_other (Some before) word = is_other_high before.high word.high (not (before.low == word.low))
+abbrev pub is_other_word : Option Word → Word → Bool
+is_other_word None word = false
+is_other_word (Some before) word = is_other_high before.high word.high (not (before.low == word.low))
 
 -- the line of an entry, 0 if there is none
 abbrev pub last_of : List (ℕ × ℕ) → ℕ → ℕ
@@ -124,7 +124,7 @@ is_kept words read line = nat_lt words.lost line
 
 abbrev pub differs_from : Words → WordRead → Option WordLine → Option ℕ
 differs_from words read None = None
-differs_from words read (Some said) = if is_kept words read said.line && is_other said.word read.word then Some said.line else None
+differs_from words read (Some said) = if is_kept words read said.line && is_other_word said.word read.word then Some said.line else None
 
 -- the line of the read before, which gave another word with nothing in between that writes it
 abbrev pub changed_since : Words → Option WordRead → Option ℕ
@@ -138,19 +138,19 @@ read_said line None words = words
 read_said line (Some read) words = word_said line (word_key read.addr read.page read.code) (Some read.word) words
 
 -- what a packet with these marks ends
-abbrev pub word_end : Marks → Option ℕ → Judged → TraceLine → WordEnd
-word_end marks other judged parts = end_by marks.is_restart (reaches_all (slice_index parts.write 0 / 2))
+abbrev pub ended_by_packet : Marks → Option ℕ → Judged → TraceLine → WordEnd
+ended_by_packet marks other judged parts = word_end_by marks.is_restart (reaches_all (slice_index parts.write 0 / 2))
     (is_clear marks.ones other judged parts) marks.page (word_change parts.write)
 
 abbrev pub words_heard : ℕ → Marks → Option ℕ → Judged → TraceLine → Words → Words
 words_heard line marks other judged parts words = read_said line (word_read words marks other judged parts)
-    (ended_by line (slice_index parts.write 0 / 2) (word_end marks other judged parts)
+    (words_ended_by line (slice_index parts.write 0 / 2) (ended_by_packet marks other judged parts)
     (paged_by (slice_index parts.write 0 / 2) (shows_pages marks.ones parts) words))
 
 -- what a packet that a comment shows ends: nothing of it is sure
 abbrev pub words_shown : ℕ → Bool → ShownPacket → Words → Words
-words_shown line lost shown words = ended_by line (shown.first / 2)
-    (end_by lost (reaches_all (shown.first / 2)) false None shown.changes) (paged_by (shown.first / 2) shown.has_pages words)
+words_shown line lost shown words = words_ended_by line (shown.first / 2)
+    (word_end_by lost (reaches_all (shown.first / 2)) false None shown.changes) (paged_by (shown.first / 2) shown.has_pages words)
 
 -- a packet to an address that is no part's may be a write to a zone
 abbrev pub words_aside : ℕ → List ℕ → Words → Words

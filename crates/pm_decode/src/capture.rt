@@ -1,8 +1,8 @@
 //! A capture as its bytes come.
 ghost use Rattle.std.specs.Prelude.{[], ◌≡◌, ◌+◌, ◌≤◌, ◌<◌, ◌^◌, ◌++◌, ◌&&◌, if◌then◌else◌, OnOk, OnErr};
 ghost use Rattle.pm_decode.specs.CaptureText.{line_text};
-ghost use Rattle.pm_decode.specs.Hearing.{heard_lines, heard_with};
-ghost use Rattle.pm_decode.specs.Options.{notes_comments};
+ghost use Rattle.pm_decode.specs.Hearing.{heard_lines, line_heard_with};
+ghost use Rattle.pm_decode.specs.Options.{is_plain, notes_comments};
 ghost use Rattle.pm_decode.specs.TimedLines.{passes_timed, timed_said};
 
 use crate::counts_text::push_counts;
@@ -20,6 +20,8 @@ use std::marker::Model;
 #[derive(Debug, Drop)]
 pub(crate) struct Capture {
     options: TellOptions,
+    // No option changes what is shown.
+    is_plain: bool,
     heard: HeardLines,
     line: TimedLine,
     // How many bytes were taken.
@@ -30,28 +32,31 @@ pub(crate) struct Capture {
 
 impl Model for Capture {
     ghost use Rattle.pm_decode.specs.Capturing.{IsBounded, Kept};
-    ghost use Rattle.pm_decode.specs.Captures.{kept_in};
+    ghost use Rattle.pm_decode.specs.Captures.{kept_in_capture};
+    ghost use Rattle.pm_decode.specs.Options.{is_plain as spec_is_plain};
+    ghost use Rattle.std.specs.Prelude.{◌≡◌};
 
     ghost Value = { Kept };
 
-    ghost view = { kept_in };
+    ghost view = { kept_in_capture };
 
-    ghost invariant = { λ c. IsBounded (kept_in c) };
+    ghost invariant = { λ c. IsBounded (kept_in_capture c) × (c.is_plain ≡ spec_is_plain c.options) };
 }
 
 impl Capture {
     ghost use Rattle.std.specs.Prelude.{[], ◌+◌, ◌≤◌, ◌<◌, ◌++◌, true, OnOk, OnErr, OnSome, IfSome, MatchOption, List, ℕ, length, string_bytes};
     ghost use Rattle.pm_decode.specs.Hearing.{told_end};
-    ghost use Rattle.pm_decode.specs.Capturing.{kept_at_end, kept_of, line_ended, most_bytes, next, text_ended, told, told_at_end};
+    ghost use Rattle.pm_decode.specs.Capturing.{capture_at_end, kept_of, capture_line_ended, most_bytes, capture_with_bytes, text_ended, told_of_capture, told_at_capture_end};
     ghost use Rattle.pm_decode.specs.CaptureText.{counts_text};
 
     /// A capture of no bytes. Takes no memory.
-    #[tactic(auto, unfolding(crate::specs::Capturing::kept_of, crate::specs::Capturing::said, crate::specs::Hearing::heard_of, pm_trace::specs::Counts::counts_of))]
+    #[tactic(auto, unfolding(crate::specs::Capturing::kept_of, crate::specs::Capturing::said_in_capture, crate::specs::Hearing::heard_in_lines, pm_trace::specs::Counts::counts_of))]
     pub(crate) fn new(alloc: Global, options: &TellOptions) -> Capture
         ensures { result ≡ kept_of options.now [] }
     {
         Capture {
             options: *options,
+            is_plain: options.is_plain(),
             heard: HeardLines::new(alloc),
             line: TimedLine::new(options.times),
             taken: 0,
@@ -82,10 +87,10 @@ impl Capture {
     /// gathered.
     pub(crate) fn take(&mut self, bytes: &[u8], gathered: &mut ToldText) -> Result<(), AllocError>
         requires { self.old.taken + length bytes.now ≤ most_bytes self.old.options.long }
-        ensures kept { OnOk result (self.new ≡ next self.old bytes.now) }
-        ensures told { OnOk result (gathered.new ≡ gathered.old ++ told self.old bytes.now) }
+        ensures kept { OnOk result (self.new ≡ capture_with_bytes self.old bytes.now) }
+        ensures told { OnOk result (gathered.new ≡ gathered.old ++ told_of_capture self.old bytes.now) }
         ensures front { OnErr result ((rest : List ℕ)
-            × (gathered.old ++ told self.old bytes.now ≡ gathered.new ++ rest)) }
+            × (gathered.old ++ told_of_capture self.old bytes.now ≡ gathered.new ++ rest)) }
         ensures some { OnErr result (0 < length bytes.now) }
     {
         let mut rest = bytes;
@@ -102,10 +107,11 @@ impl Capture {
     // ended yet.
     fn take_front<'a>(&mut self, bytes: &'a [u8]) -> Option<&'a [u8]>
         requires { self.old.taken + length bytes.now ≤ most_bytes self.old.options.long }
-        ensures kept { MatchOption result (next self.old bytes.entry.now ≡ self.new)
-            (λ more. next self.old bytes.entry.now ≡ next (line_ended self.new) more.now) }
-        ensures told { MatchOption result (told self.old bytes.entry.now ≡ [])
-            (λ more. told self.old bytes.entry.now ≡ text_ended self.new ++ told (line_ended self.new) more.now) }
+        ensures kept { MatchOption result (capture_with_bytes self.old bytes.entry.now ≡ self.new)
+            (λ more. capture_with_bytes self.old bytes.entry.now ≡ capture_with_bytes (capture_line_ended self.new) more.now) }
+        ensures told { MatchOption result (told_of_capture self.old bytes.entry.now ≡ [])
+            (λ more. told_of_capture self.old bytes.entry.now ≡ text_ended self.new
+            ++ told_of_capture (capture_line_ended self.new) more.now) }
         ensures fewer { IfSome result (λ more. length more.now < length bytes.entry.now) }
         ensures room { IfSome result (λ more. self.new.taken + length more.now ≤ most_bytes self.new.options.long) }
         ensures ended { OnSome result (self.new.ended + 1 ≤ self.new.taken) }
@@ -122,13 +128,14 @@ impl Capture {
     // Ends the line, and gathers what it says, if it isn't skipped.
     fn end_line(&mut self, gathered: &mut ToldText) -> Result<(), AllocError>
         requires { self.old.ended + 1 ≤ self.old.taken }
-        ensures kept { OnOk result (self.new ≡ line_ended self.old) }
+        ensures kept { OnOk result (self.new ≡ capture_line_ended self.old) }
         ensures told { OnOk result (gathered.new ≡ gathered.old ++ text_ended self.old) }
         ensures unchanged { OnErr result (gathered.new ≡ gathered.old) }
     {
         let heard = hear_line(
             &mut self.heard,
             &self.options,
+            self.is_plain,
             self.ended + 1,
             &self.line,
             gathered,
@@ -148,8 +155,8 @@ impl Capture {
 
     /// Ends the capture: a last line ends here that has bytes and no line feed.
     pub(crate) fn finish(&mut self, gathered: &mut ToldText) -> Result<(), AllocError>
-        ensures kept { OnOk result (self.new ≡ kept_at_end self.old) }
-        ensures told { OnOk result (gathered.new ≡ gathered.old ++ told_at_end self.old) }
+        ensures kept { OnOk result (self.new ≡ capture_at_end self.old) }
+        ensures told { OnOk result (gathered.new ≡ gathered.old ++ told_at_capture_end self.old) }
     {
         if self.is_begun() {
             self.end_line(gathered)?;
@@ -193,13 +200,15 @@ impl Capture {
 fn hear_line(
     heard: &mut HeardLines,
     options: &TellOptions,
+    plain: bool,
     number: u64,
     line: &TimedLine,
     gathered: &mut ToldText,
 ) -> Result<(), AllocError>
-    requires { heard_lines heard.old + 1 < 2 ^ 64 }
+    requires few { heard_lines heard.old + 1 < 2 ^ 64 }
+    requires plain { plain ≡ is_plain options.now }
     ensures heard { OnOk result (heard.new ≡ (if passes_timed (notes_comments options.now) line.now then heard.old
-        else heard_with options.now heard.old (number, timed_said (notes_comments options.now) line.now))) }
+        else line_heard_with options.now heard.old (number, timed_said (notes_comments options.now) line.now))) }
     ensures told { OnOk result (gathered.new ≡ gathered.old ++ (if passes_timed (notes_comments options.now) line.now then []
         else line_text options.now heard.old.known (number, timed_said (notes_comments options.now) line.now))) }
     ensures unchanged { OnErr result (gathered.new ≡ gathered.old) }
@@ -212,7 +221,7 @@ fn hear_line(
     if line.is_skipped() {
         return Ok(());
     }
-    gathered.hear(heard, options, number, &line.reading())
+    gathered.hear(heard, options, plain, number, &line.reading())
 }
 
 // Whether a line is a comment that is noted.

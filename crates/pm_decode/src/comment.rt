@@ -1,7 +1,7 @@
 //! Comments of a capture while their bytes come.
 ghost use Rattle.std.specs.Prelude.{◌≡◌, drop, take};
 ghost use Rattle.std.specs.Prelude.{◌+◌, ◌*◌, ◌++◌, ◌≤◌, ◌<◌, IfSome, length, option_map};
-ghost use Rattle.pm_decode.specs.Readings.{behind_colon as spec_behind_colon, behind_slash as spec_behind_slash, behind_space as spec_behind_space, bytes_shown, first_byte, is_missing as spec_is_missing, is_packet_comment as spec_is_packet_comment, is_read_shown as spec_is_read_shown, is_together as spec_is_together, packet_shown as spec_packet_shown, failure_at as spec_failure_at, failure_in as spec_failure_in, note_in as spec_note_in, number_shown as spec_number_shown, refusal_by, why_in as spec_why_in, remark_in as spec_remark_in, transfer_shown as spec_transfer_shown, write_shown as spec_write_shown};
+ghost use Rattle.pm_decode.specs.Readings.{behind_colon as spec_behind_colon, behind_slash as spec_behind_slash, behind_space as spec_behind_space, bytes_shown, first_byte, are_packets_missing as spec_is_missing, is_packet_comment as spec_is_packet_comment, is_read_shown as spec_is_read_shown, is_together as spec_is_together, packet_shown as spec_packet_shown, failure_at as spec_failure_at, failure_in as spec_failure_in, note_in as spec_note_in, number_shown as spec_number_shown, refusal_by, why_in as spec_why_in, remark_in as spec_remark_in, transfer_shown as spec_transfer_shown, write_shown as spec_write_shown};
 
 use crate::word_change::{WordChange, word_change};
 use arrayvec::ArrayVec;

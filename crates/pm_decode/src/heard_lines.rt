@@ -45,7 +45,7 @@ impl HeardLines {
     ghost use Rattle.pm_decode.specs.CaptureText.{told_line};
     ghost use Rattle.pm_trace.specs.Answers.{ones_of};
     ghost use Rattle.pm_trace.specs.declared.answers.Ones.TheVariants.{Answer};
-    ghost use Rattle.pm_decode.specs.Hearing.{answers_read, counted_with, heard_aside, heard_lines, heard_told, heard_with, known_read, ones_in, since, taught_read, unheard};
+    ghost use Rattle.pm_decode.specs.Hearing.{answers_read, counted_with, heard_aside, heard_lines, heard_told, line_heard_with, known_read, ones_in, time_since, taught_read, unheard};
     ghost use Rattle.pm_trace.specs.Otherwise.{content_of};
     ghost use Rattle.pm_decode.specs.Hints.{beyond_by, lacking_by};
     ghost use Rattle.pm_decode.specs.UsualLines.{code_counted};
@@ -53,7 +53,7 @@ impl HeardLines {
     ghost use Rattle.pm_trace.specs.declared.pages.PageUse.TheVariants.{Beside};
     ghost use Rattle.pm_decode.specs.declared.page_steps.Marks.{Marks};
     ghost use Rattle.pm_decode.specs.Readings.{Noted, Told};
-    ghost use Rattle.pm_decode.specs.ShownReadings.{reading_in};
+    ghost use Rattle.pm_decode.specs.ShownReadings.{reading_in_line};
     ghost use Rattle.pm_decode.specs.declared.options.TellOptions.{TellOptions};
 
     /// No line yet. Takes no memory.
@@ -81,8 +81,8 @@ impl HeardLines {
     ) -> Result<(), AllocError>
         requires { heard_lines self.old + 1 < 2 ^ 64 }
         ensures text { OnOk result (string_bytes text.new ++ codes "\n" ≡ string_bytes text.old
-            ++ line_text options.now self.old.known (number, Told (reading_in line.now))) }
-        ensures heard { OnOk result (self.new ≡ heard_with options.now self.old (number, Told (reading_in line.now))) }
+            ++ line_text options.now self.old.known (number, Told (reading_in_line line.now))) }
+        ensures heard { OnOk result (self.new ≡ line_heard_with options.now self.old (number, Told (reading_in_line line.now))) }
         ensures few { heard_lines self.new ≤ heard_lines self.old + 1 }
     {
         match &line.packet {
@@ -93,7 +93,7 @@ impl HeardLines {
                     time: line.time,
                     packet: *packet,
                     shown: &shown,
-                    ones: self.known.ones(options, packet, &shown),
+                    ones: self.known.ones(options, *packet, &shown),
                     other: None,
                 };
                 self.hear_readable(options, &line, text)
@@ -123,7 +123,7 @@ impl HeardLines {
             ++ line_text options.now self.old.known
             (line.now.number, Told (record { time = line.now.time; parts = Ok (packet_in line.now.packet) }))) }
         ensures heard { OnOk result (self.new
-            ≡ heard_with options.now self.old (line.now.number, Told (record { time = line.now.time; parts = Ok (packet_in line.now.packet) }))) }
+            ≡ line_heard_with options.now self.old (line.now.number, Told (record { time = line.now.time; parts = Ok (packet_in line.now.packet) }))) }
         ensures few { heard_lines self.new ≤ heard_lines self.old + 1 }
     {
         match self.known.special(options, line) {
@@ -142,7 +142,7 @@ impl HeardLines {
     ) -> Result<(), AllocError>
         requires few { heard_lines self.old + 1 < 2 ^ 64 }
         ensures text { OnOk result (string_bytes text.new ++ codes "\n" ≡ string_bytes text.old
-            ++ aside_line options.now.json special line.now.ones line.now.number (since self.old.known.first line.now.time)
+            ++ aside_line options.now.json special line.now.ones line.now.number (time_since self.old.known.first line.now.time)
             (Ok (packet_in line.now.packet))) }
         ensures heard { OnOk result (self.new
             ≡ heard_aside options.now line.now.number line.now.time special line.now.ones (Ok (packet_in line.now.packet)) self.old) }
@@ -328,7 +328,7 @@ impl HeardLines {
         number: u64,
         note: &Note,
     ) -> Result<(), AllocError>
-        ensures heard { OnOk result (self.new ≡ heard_with options.now self.old (number, Noted note.now)) }
+        ensures heard { OnOk result (self.new ≡ line_heard_with options.now self.old (number, Noted note.now)) }
         ensures few { heard_lines self.new ≡ heard_lines self.old }
     {
         self.known.note(options, number, note)

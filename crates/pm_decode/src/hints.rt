@@ -6,7 +6,7 @@ ghost use Rattle.pm_trace.specs.Trace.{parts_judged};
 ghost use Rattle.pm_trace.specs.Otherwise.{is_accepted};
 ghost use Rattle.pm_decode.specs.ShownReadings.{packet_in};
 ghost use Rattle.pm_decode.specs.Hearing.{heard_lines, first_hint as spec_first_hint, hint_by, is_none_told, is_without_any_pec as spec_is_without_any_pec, lines_hint as spec_lines_hint};
-ghost use Rattle.pm_decode.specs.Hints.{beyond_by, first_if, has_entry as spec_has_entry, has_vout as spec_has_vout, is_digits as spec_is_digits, is_timed as spec_is_timed, is_beyond as spec_is_beyond, is_huge as spec_is_huge, is_huge_value as spec_is_huge_value, lacking_by, paging_by, timed_by, writes_page as spec_writes_page};
+ghost use Rattle.pm_decode.specs.Hints.{beyond_by, first_if, has_entry as spec_has_entry, has_vout_format as spec_has_vout, is_digits as spec_is_digits, is_timed as spec_is_timed, is_order_beyond as spec_is_beyond, is_huge as spec_is_huge, is_huge_value as spec_is_huge_value, lacking_by, paging_by, timed_by, writes_page as spec_writes_page};
 
 use crate::heard_lines::HeardLines;
 use crate::{PacketLine, TellOptions};

@@ -1,23 +1,26 @@
 //! What is known after the lines of a capture.
 ghost use Rattle.std.specs.Option.{option_or};
-ghost use Rattle.std.specs.Prelude.{◌≡◌, ◌<◌, Bool, None, option_map};
+ghost use Rattle.std.specs.Prelude.{◌≡◌, ◌<◌, Bool, None, option_map, true};
 ghost use Rattle.pm_decode.specs.Specials.{shows_part as spec_shows_part};
 ghost use Rattle.pm_trace.specs.ShownLines.{judged_in};
+ghost use Rattle.pm_trace.specs.Otherwise.{is_accepted};
 ghost use Rattle.pm_trace.specs.Trace.{parts_judged};
 ghost use Rattle.pm_decode.specs.Options.{notes_comments};
 ghost use Rattle.pm_decode.specs.Hearing.{first_refusal as spec_first_refusal};
-ghost use Rattle.pm_decode.specs.Readings.{is_without_pec};
+ghost use Rattle.pm_decode.specs.Readings.{is_without_pec, judged_by};
 ghost use Rattle.pm_decode.specs.ShownReadings.{packet_in};
 
 use crate::hints::{first_beyond, first_paging, first_timed, still_lacking};
-use crate::line_text::{push_failed, push_packet_line};
+use crate::line_text::{push_failed, push_packet_line, since_first};
 use crate::{
     Addresses, Marks, NOWHERE, Note, PacketLine, Remark, ShownPacket, Special, TellOptions,
     WordRead, Words, address_in, aside_ends_all, change_in, completed_if, is_beside, is_checked,
     is_lost, is_lost_shown, is_part_answer, is_received, is_told, kept_for, page_step,
     shown_change, shown_ends_all, shown_use, shows_pages, special_of, written_to,
 };
-use pm_trace::{Answers, Lessons, Ones, Packet, PageUse, Pages, Refusal, Shown, shown_with};
+use pm_trace::{
+    Answers, Lessons, ModeChange, Ones, Packet, PageUse, Pages, Refusal, Shown, shown_with,
+};
 use std::alloc::{AllocError, Global};
 use std::marker::Model;
 
@@ -58,10 +61,11 @@ impl Known {
     ghost use Rattle.std.specs.Prelude.{if◌then◌else◌, is_some};
     ghost use Rattle.pm_decode.specs.CaptureText.{noted_line, read_line, told_line};
     ghost use Rattle.pm_trace.specs.declared.pages.PageUse.TheVariants.{Beside};
-    ghost use Rattle.pm_decode.specs.PageSteps.{used_by};
-    ghost use Rattle.pm_decode.specs.Readings.{judged_by, other_address};
+    ghost use Rattle.pm_decode.specs.PageSteps.{change_by, judged_address, shows_pages as spec_shows_pages, used_by};
+    ghost use Rattle.pm_trace.specs.Taught.{changed_by, paged_if};
+    ghost use Rattle.pm_decode.specs.Readings.{other_address};
     ghost use Rattle.pm_decode.specs.Words.{word_read as spec_word_read, words_heard};
-    ghost use Rattle.pm_decode.specs.Hearing.{answered_as, answers_read, known_aside, known_lost, known_noted, known_remarked, known_shown, known_told, marks_with, ones_in, part_seen, since, special_in, taught_read, unknown, words_told};
+    ghost use Rattle.pm_decode.specs.Hearing.{answered_as, answers_read, known_aside, known_lost, known_noted, known_remarked, known_shown, known_told, marks_with, ones_in, part_seen, time_since, special_in, taught_read, unknown, words_told};
     ghost use Rattle.pm_decode.specs.Hints.{beyond_by, lacking_by, paging_by, timed_by};
 
     /// Before the first line. Takes no memory.
@@ -150,7 +154,7 @@ impl Known {
         let marks = Marks::without_page(line.ones, lacks);
         self.tell_packet(options, &marks, line, text)?;
         self.pages
-            .learn(line.number, None, NOWHERE, PageUse::Beside)
+            .learn(line.number, None, &NOWHERE, PageUse::Beside)
     }
 
     // Appends the line of any packet, by what is known of the page of its address, and learns from it.
@@ -176,7 +180,7 @@ impl Known {
         let marks = Marks::of(line.ones, lacks, &step);
         self.tell_packet(options, &marks, line, text)?;
         self.pages
-            .learn(line.number, step.addr, step.place, step.used)
+            .learn(line.number, step.addr, &step.place, step.used)
     }
 
     /// Appends a packet's line to a text, and learns what the packet teaches and orders.
@@ -191,7 +195,7 @@ impl Known {
         requires other { line.now.other ≡ other_address options.now.all marks.now.ones (packet_in line.now.packet) }
         requires lacks { marks.now.lacks ≡ is_without_pec options.now.all marks.now.ones (packet_in line.now.packet) }
         ensures text { OnOk result (string_bytes text.new ++ codes "\n" ≡ string_bytes text.old
-            ++ told_line options.now self.old.taught (marks_with options.now self.old.words marks.now (packet_in line.now.packet)) line.now.number (since self.old.first line.now.time) (Ok (packet_in line.now.packet))) }
+            ++ told_line options.now self.old.taught (marks_with options.now self.old.words marks.now (packet_in line.now.packet)) line.now.number (time_since self.old.first line.now.time) (Ok (packet_in line.now.packet))) }
         ensures known { OnOk result (self.new ≡ record self.old {
           taught = taught_read options.now line.now.number marks.now (Ok (packet_in line.now.packet)) self.old.taught;
           beyond = beyond_by options.now self.old.taught marks.now.reached line.now.number (judged_in line.now.shown.now) self.old.beyond;
@@ -204,24 +208,120 @@ impl Known {
           words = words_told options.now line.now.number marks.now (packet_in line.now.packet) self.old.words;
         }) }
     {
+        self.tell_line(options, marks, line, text)?;
+        self.hint(options, marks, line);
+        self.hear_answer(options, marks, line)?;
+        self.learn(options, marks, line)
+    }
+
+    // Appends a packet's line to a text, and hears its words if words that changed are shown.
+    #[tactic(auto, using(crate::proofs::Shown::unchanged))]
+    fn tell_line(
+        &mut self,
+        options: &TellOptions,
+        marks: &Marks,
+        line: &PacketLine<'_>,
+        text: &mut String,
+    ) -> Result<(), AllocError>
+        requires shown { judged_in line.now.shown.now ≡ judged_by options.now.all marks.now.ones (packet_in line.now.packet) }
+        requires other { line.now.other ≡ other_address options.now.all marks.now.ones (packet_in line.now.packet) }
+        ensures text { OnOk result (string_bytes text.new ++ codes "\n" ≡ string_bytes text.old
+            ++ told_line options.now self.old.taught (marks_with options.now self.old.words marks.now (packet_in line.now.packet)) line.now.number (time_since self.old.first line.now.time) (Ok (packet_in line.now.packet))) }
+        ensures words { OnOk result (self.new ≡ record self.old {
+          words = words_told options.now line.now.number marks.now (packet_in line.now.packet) self.old.words;
+        }) }
+    {
+        if options.explain || marks.changed.is_some() {
+            self.tell_changed(options, marks, line, text)
+        } else {
+            push_packet_line(text, options, &self.lessons, marks, self.first, line)
+        }
+    }
+
+    // Appends a packet's line to a text with the mark of a word that changed, if it did, and hears its words.
+    #[inline(never)]
+    fn tell_changed(
+        &mut self,
+        options: &TellOptions,
+        marks: &Marks,
+        line: &PacketLine<'_>,
+        text: &mut String,
+    ) -> Result<(), AllocError>
+        requires shown { judged_in line.now.shown.now ≡ judged_by options.now.all marks.now.ones (packet_in line.now.packet) }
+        requires other { line.now.other ≡ other_address options.now.all marks.now.ones (packet_in line.now.packet) }
+        ensures text { OnOk result (string_bytes text.new ++ codes "\n" ≡ string_bytes text.old
+            ++ told_line options.now self.old.taught (marks_with options.now self.old.words marks.now (packet_in line.now.packet)) line.now.number (time_since self.old.first line.now.time) (Ok (packet_in line.now.packet))) }
+        ensures words { OnOk result (self.new ≡ record self.old {
+          words = words_told options.now line.now.number marks.now (packet_in line.now.packet) self.old.words;
+        }) }
+    {
         let read = self.word_read(options.explain, marks, line);
         let shown_marks = Marks {
             changed: self.words.changed(read),
             ..*marks
         };
-        let since = self.since(line.time);
-        push_packet_line(text, options, &self.lessons, &shown_marks, since, line)?;
-        self.beyond = first_beyond(options, &self.lessons, marks.reached, line, self.beyond);
-        self.paging = first_paging(options, line, self.paging);
+        push_packet_line(text, options, &self.lessons, &shown_marks, self.first, line)?;
+        self.hear_words(options.explain, marks, read, line)
+    }
+
+    // Takes what a packet says of hints and times, and that a refusal is over.
+    #[tactic(auto, using(crate::proofs::Shown::no_time))]
+    fn hint(&mut self, options: &TellOptions, marks: &Marks, line: &PacketLine<'_>)
+        requires shown { judged_in line.now.shown.now ≡ judged_by options.now.all marks.now.ones (packet_in line.now.packet) }
+        requires lacks { marks.now.lacks ≡ is_without_pec options.now.all marks.now.ones (packet_in line.now.packet) }
+        ensures { self.new ≡ record self.old {
+          beyond = beyond_by options.now self.old.taught marks.now.reached line.now.number (judged_in line.now.shown.now) self.old.beyond;
+          refused = if notes_comments options.now then None else self.old.refused;
+          paging = paging_by options.now line.now.number (judged_in line.now.shown.now) self.old.paging;
+          lacking = lacking_by options.now.all (packet_in line.now.packet) self.old.lacking;
+          timed = timed_by options.now line.now.number (packet_in line.now.packet) self.old.timed;
+          first = option_or self.old.first line.now.time;
+        } }
+    {
+        self.hint_values(options, marks, line);
+        self.hint_fault(options, marks, line);
+        self.end_refusal(options);
+        if line.time.is_some() {
+            self.first = self.first.or(line.time);
+        }
+    }
+
+    // Takes what a packet says of hints if values are shown.
+    fn hint_values(&mut self, options: &TellOptions, marks: &Marks, line: &PacketLine<'_>)
+        ensures { self.new ≡ record self.old {
+          beyond = beyond_by options.now self.old.taught marks.now.reached line.now.number (judged_in line.now.shown.now) self.old.beyond;
+          paging = paging_by options.now line.now.number (judged_in line.now.shown.now) self.old.paging;
+        } }
+    {
+        if options.values {
+            self.beyond = first_beyond(options, &self.lessons, marks.reached, line, self.beyond);
+            self.paging = first_paging(options, line, self.paging);
+        }
+    }
+
+    // Takes what a packet says of hints that isn't good as it is.
+    fn hint_fault(&mut self, options: &TellOptions, marks: &Marks, line: &PacketLine<'_>)
+        requires shown { judged_in line.now.shown.now ≡ judged_by options.now.all marks.now.ones (packet_in line.now.packet) }
+        requires lacks { marks.now.lacks ≡ is_without_pec options.now.all marks.now.ones (packet_in line.now.packet) }
+        ensures { self.new ≡ record self.old {
+          lacking = lacking_by options.now.all (packet_in line.now.packet) self.old.lacking;
+          timed = timed_by options.now line.now.number (packet_in line.now.packet) self.old.timed;
+        } }
+    {
+        if is_whole(options.all, marks, line) {
+            return;
+        }
         self.lacking = still_lacking(options.all, line, self.lacking);
         self.timed = first_timed(options, line.number, &line.packet, self.timed);
-        self.first = self.first.or(line.time);
-        if options.notes_comments() {
+    }
+
+    // A refusal is over: a packet follows it.
+    fn end_refusal(&mut self, options: &TellOptions)
+        ensures { self.new ≡ record self.old { refused = if notes_comments options.now then None else self.old.refused } }
+    {
+        if self.refused.is_some() && options.notes_comments() {
             self.refused = None;
         }
-        self.hear_words(options.explain, marks, read, line)?;
-        self.hear_answer(options, marks, line)?;
-        self.learn(options, marks, line)
     }
 
     // The read of a register, if words that changed are shown.
@@ -260,10 +360,9 @@ impl Known {
 
     /// A time, counted from the first one.
     pub(crate) fn since(&self, time: Option<u64>) -> Option<i128>
-        ensures { result ≡ since self.now.first time }
+        ensures { result ≡ time_since self.now.first time }
     {
-        let time = time?;
-        Some(i128::from(time) - i128::from(self.first.unwrap_or(time)))
+        since_first(self.first, time)
     }
 
     // Hears what a clear packet says of answers.
@@ -309,15 +408,29 @@ impl Known {
         }) }
     {
         if options.values {
-            let addr = address_in(line.shown);
-            let change = change_in(marks, line);
-            self.lessons.forget(line.number, addr, change)?;
-            self.lessons.see_pages(addr, shows_pages(marks, line))?;
+            self.see_values(marks, line)?;
         }
         if !marks.ones.is_answer() || marks.wrong.is_some() {
             return Ok(());
         }
         self.lessons.learn(line.number, marks.reached, line.shown)
+    }
+
+    // Forgets modes that a packet may have changed, and learns that its address has pages, if it shows so.
+    #[tactic(auto, using(crate::proofs::Shown::none_changed))]
+    fn see_values(&mut self, marks: &Marks, line: &PacketLine<'_>) -> Result<(), AllocError>
+        ensures { OnOk result (self.new ≡ record self.old {
+          taught = paged_if (spec_shows_pages marks.now.ones (packet_in line.now.packet)) (judged_address (judged_in line.now.shown.now))
+              (changed_by line.now.number (judged_address (judged_in line.now.shown.now))
+              (change_by marks.now line.now.other (judged_in line.now.shown.now) (packet_in line.now.packet)) self.old.taught);
+        }) }
+    {
+        let addr = address_in(line.shown);
+        let change = change_in(marks, line);
+        if !matches!(change, ModeChange::OfNone) {
+            self.lessons.forget(line.number, addr, change)?;
+        }
+        self.lessons.see_pages(addr, shows_pages(marks, line))
     }
 
     /// What the address of a packet is, if that is no part's. If it is a part's that SMBus keeps for something else, and the packet
@@ -333,12 +446,12 @@ impl Known {
         ensures special { result ≡ special_in options.now self.old (Ok (packet_in line.now.packet)) }
         ensures noted { self.new ≡ (if is_some result then self.old else part_seen options.now (Ok (packet_in line.now.packet)) self.old) }
     {
-        if !options.notes_comments() {
+        let addr = written_to(line.packet.write)?;
+        if kept_for(addr).is_none() && !options.muxes.has(addr) {
             return None;
         }
-        let addr = written_to(line.packet.write)?;
-        if kept_for(addr).is_none() {
-            return special_of(options, false, addr);
+        if !options.notes_comments() {
+            return None;
         }
         let answers = shows_part(options.all, line);
         let special = special_of(options, self.parts.has(addr) || answers, addr);
@@ -368,26 +481,24 @@ impl Known {
     }
 
     /// How a packet was received that says so.
-    pub(crate) fn ones(&self, options: &TellOptions, packet: &Packet<'_>, shown: &Shown<'_>) -> Ones
-        requires { judged_in shown.now ≡ parts_judged packet.now.write.now (option_map (λ bytes. bytes.now) packet.now.read) }
-        ensures { result ≡ ones_in options.now self.now (Ok (packet_in packet.now)) }
+    pub(crate) fn ones(&self, options: &TellOptions, packet: Packet<'_>, shown: &Shown<'_>) -> Ones
+        requires { judged_in shown.now ≡ parts_judged packet.write.now (option_map (λ bytes. bytes.now) packet.read) }
+        ensures { result ≡ ones_in options.now self.now (Ok (packet_in packet.entry)) }
     {
-        if !options.notes_comments() {
-            return Ones::Answer;
-        }
         match self.refused {
-            Some(refusal) => Ones::Refused(refusal),
             None => self.answered(options.all, packet, shown),
+            Some(refusal) if options.notes_comments() => Ones::Refused(refusal),
+            Some(_) => Ones::Answer,
         }
     }
 
     // What an answer of ones is taken for, if packets without PEC are shown and it isn't good with one.
-    fn answered(&self, all: bool, packet: &Packet<'_>, shown: &Shown<'_>) -> Ones
-        requires { judged_in shown.now ≡ parts_judged packet.now.write.now (option_map (λ bytes. bytes.now) packet.now.read) }
-        ensures { result ≡ answered_as all self.now.answers (packet_in packet.now) }
+    fn answered(&self, all: bool, packet: Packet<'_>, shown: &Shown<'_>) -> Ones
+        requires { judged_in shown.now ≡ parts_judged packet.write.now (option_map (λ bytes. bytes.now) packet.read) }
+        ensures { result ≡ answered_as all self.now.answers (packet_in packet.entry) }
     {
         if all && !matches!(shown, Shown::Accepted { .. }) {
-            self.answers.ones(packet, shown)
+            self.answers.ones(&packet, shown)
         } else {
             Ones::Answer
         }
@@ -509,6 +620,16 @@ fn first_refusal(before: Option<Refusal>, refusal: Refusal) -> Option<Refusal>
         Some(before) => Some(before),
         None => Some(refusal),
     }
+}
+
+// Whether a packet with these marks is good as it is, with its PEC.
+#[tactic(auto, using(crate::proofs::Shown::whole_good))]
+fn is_whole(all: bool, marks: &Marks, line: &PacketLine<'_>) -> bool
+    requires shown { judged_in line.now.shown.now ≡ judged_by all marks.now.ones (packet_in line.now.packet) }
+    requires lacks { marks.now.lacks ≡ is_without_pec all marks.now.ones (packet_in line.now.packet) }
+    ensures { result ≡ true → is_accepted (parts_judged line.now.packet.write.now (option_map (λ bytes. bytes.now) line.now.packet.read)) ≡ true }
+{
+    !marks.lacks && matches!(line.shown, Shown::Accepted { .. })
 }
 
 // Whether a packet is a clear answer as parts give it.

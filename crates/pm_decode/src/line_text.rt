@@ -1,11 +1,12 @@
 //! The text of a line.
-ghost use Rattle.std.specs.Prelude.{◌≡◌, ◌++◌, ℤ, Option, Err, Ok, OnOk, codes, decimal, option_map, string_bytes};
+ghost use Rattle.std.specs.Prelude.{◌≡◌, ◌++◌, [], ℕ, ℤ, true, Option, Err, Ok, OnOk, codes, decimal, option_map, string_bytes};
 ghost use Rattle.pm_trace.specs.ShownLines.{judged_in};
 ghost use Rattle.pm_trace.specs.Trace.{reading_judged};
 ghost use Rattle.pm_trace.specs.TraceText.{judged_text};
 ghost use Rattle.pm_trace.specs.Taught.{Taught};
-ghost use Rattle.pm_decode.specs.CaptureText.{assumed_text, bytes_text, changed_text, extra_text, failed_line, forbidden_text, json_failed, plain_failed, json_line, lack_text, marks_text, phase_text, plain_line, meaning_text, otherwise_by as spec_otherwise_by, packet_fields_by, packet_text_by, reached_text, read_bytes_text, received_text, refused_words as spec_refused_words, time_text, told_line, two_lines, wrong_text};
+ghost use Rattle.pm_decode.specs.CaptureText.{assumed_text, bytes_text, changed_text, extra_text, failed_line, forbidden_text, json_failed, plain_failed, json_line, lack_text, marks_text, phase_text, plain_capture_line, meaning_text, otherwise_by as spec_otherwise_by, packet_fields_by, packet_text_by, reached_text, read_bytes_text, received_text, refused_words as spec_refused_words, time_text, told_line, two_lines, wrong_text};
 ghost use Rattle.pm_decode.specs.Readings.{judged_by, other_address};
+ghost use Rattle.pm_decode.specs.Hearing.{time_since};
 ghost use Rattle.pm_decode.specs.ShownReadings.{packet_in};
 ghost use Rattle.pm_decode.specs.declared.page_steps.Marks.{Marks};
 
@@ -56,7 +57,7 @@ fn push_bad_json(
 }
 
 // A bad line as it is shown to a person.
-#[tactic(auto, using(pm_lines::specs::Lemmas::Joins::joins), unfolding(crate::specs::CaptureText::plain_line))]
+#[tactic(auto, using(pm_lines::specs::Lemmas::Joins::joins), unfolding(crate::specs::CaptureText::plain_capture_line))]
 fn push_bad_plain(
     text: &mut String,
     options: &TellOptions,
@@ -64,7 +65,7 @@ fn push_bad_plain(
     fault: LineFault,
 ) -> Result<(), AllocError>
     ensures { OnOk result ((taught : Taught) (marks : Marks) (time : Option ℤ) → string_bytes text.new ++ codes "\n"
-        ≡ string_bytes text.old ++ plain_line options.now taught marks number time (Err fault)) }
+        ≡ string_bytes text.old ++ plain_capture_line options.now taught marks number time (Err fault)) }
 {
     push_decimal(text, number)?;
     text.push_str(" ")?;
@@ -140,18 +141,18 @@ pub(crate) fn push_packet_line(
     options: &TellOptions,
     lessons: &Lessons,
     marks: &Marks,
-    since: Option<i128>,
+    first: Option<u64>,
     line: &PacketLine<'_>,
 ) -> Result<(), AllocError>
     requires shown { judged_in line.now.shown.now ≡ judged_by options.now.all marks.now.ones (packet_in line.now.packet) }
     requires other { line.now.other ≡ other_address options.now.all marks.now.ones (packet_in line.now.packet) }
     ensures { OnOk result (string_bytes text.new ++ codes "\n" ≡ string_bytes text.old
-        ++ told_line options.now lessons.now marks.now line.now.number since (Ok (packet_in line.now.packet))) }
+        ++ told_line options.now lessons.now marks.now line.now.number (time_since first line.now.time) (Ok (packet_in line.now.packet))) }
 {
     if options.json {
-        push_packet_json(text, options, lessons, marks, since, line)
+        push_packet_json(text, options, lessons, marks, first, line)
     } else {
-        push_packet_plain(text, options, lessons, marks, since, line)
+        push_packet_plain(text, options, lessons, marks, first, line)
     }
 }
 
@@ -162,17 +163,17 @@ fn push_packet_json(
     options: &TellOptions,
     lessons: &Lessons,
     marks: &Marks,
-    since: Option<i128>,
+    first: Option<u64>,
     line: &PacketLine<'_>,
 ) -> Result<(), AllocError>
     requires shown { judged_in line.now.shown.now ≡ judged_by options.now.all marks.now.ones (packet_in line.now.packet) }
     requires other { line.now.other ≡ other_address options.now.all marks.now.ones (packet_in line.now.packet) }
     ensures { OnOk result (string_bytes text.new ++ codes "\n" ≡ string_bytes text.old
-        ++ json_line options.now lessons.now marks.now line.now.number since (Ok (packet_in line.now.packet))) }
+        ++ json_line options.now lessons.now marks.now line.now.number (time_since first line.now.time) (Ok (packet_in line.now.packet))) }
 {
     text.push_str("{\"line\":")?;
     push_decimal(text, line.number)?;
-    push_signed_field_if(text, "time", since)?;
+    push_signed_field_if(text, "time", since_first(first, line.time))?;
     push_packet_fields(text, options, lessons, marks, line)?;
     text.push_str("}")
 }
@@ -204,22 +205,25 @@ fn push_packet_fields(
 }
 
 // The packet as it is shown to a person.
-#[tactic(auto, using(pm_lines::specs::Lemmas::Joins::joins), unfolding(crate::specs::CaptureText::plain_line))]
+#[tactic(auto, using(pm_lines::specs::Lemmas::Joins::joins), unfolding(crate::specs::CaptureText::plain_capture_line))]
 fn push_packet_plain(
     text: &mut String,
     options: &TellOptions,
     lessons: &Lessons,
     marks: &Marks,
-    since: Option<i128>,
+    first: Option<u64>,
     line: &PacketLine<'_>,
 ) -> Result<(), AllocError>
     requires shown { judged_in line.now.shown.now ≡ judged_by options.now.all marks.now.ones (packet_in line.now.packet) }
     requires other { line.now.other ≡ other_address options.now.all marks.now.ones (packet_in line.now.packet) }
     ensures { OnOk result (string_bytes text.new ++ codes "\n" ≡ string_bytes text.old
-        ++ plain_line options.now lessons.now marks.now line.now.number since (Ok (packet_in line.now.packet))) }
+        ++ plain_capture_line options.now lessons.now marks.now line.now.number (time_since first line.now.time)
+        (Ok (packet_in line.now.packet))) }
 {
     push_decimal(text, line.number)?;
-    push_time(text, since)?;
+    if line.time.is_some() {
+        push_time(text, since_first(first, line.time))?;
+    }
     text.push_str(" ")?;
     push_packet_text(text, options, lessons, marks, line)
 }
@@ -242,13 +246,12 @@ fn push_packet_text(
             push_reached(text, marks.reached, line.number, line.shown)?;
             push_extra(text, options, lessons, marks, line)?;
             push_lack(text, marks)?;
-            push_marks(text, line.number, marks)
         }
         Some(addr) => {
             push_otherwise(text, &otherwise_by(options, marks, addr), &line.packet)?;
-            push_marks(text, line.number, marks)
         }
     }
+    push_marks(text, line.number, marks)
 }
 
 // How a packet with these marks is shown by its code and bytes.
@@ -302,11 +305,25 @@ fn push_lack(text: &mut String, marks: &Marks) -> Result<(), AllocError>
 fn push_marks(text: &mut String, number: u64, marks: &Marks) -> Result<(), AllocError>
     ensures { OnOk result (string_bytes text.new ≡ string_bytes text.old ++ marks_text number marks.now) }
 {
+    if is_unmarked(marks) {
+        return Ok(());
+    }
     push_phase(text, marks.phase)?;
     push_received(text, marks.ones)?;
     push_forbidden(text, marks.is_forbidden)?;
     push_wrong_if(text, number, marks.wrong)?;
     push_changed_if(text, number, marks.changed)
+}
+
+// Whether nothing follows a packet for its marks.
+fn is_unmarked(marks: &Marks) -> bool
+    ensures { result ≡ true → (number : ℕ) → marks_text number marks.now ≡ [] }
+{
+    marks.phase.is_none()
+        && !marks.ones.is_refused()
+        && !marks.is_forbidden
+        && marks.wrong.is_none()
+        && marks.changed.is_none()
 }
 
 // What follows a reading of a phase.
@@ -393,6 +410,14 @@ fn push_two_lines(text: &mut String, line: u64, number: u64) -> Result<(), Alloc
     push_decimal(text, line)?;
     text.push_str(" and ")?;
     push_decimal(text, number)
+}
+
+/// A time, counted from the first one.
+pub(crate) fn since_first(first: Option<u64>, time: Option<u64>) -> Option<i128>
+    ensures { result ≡ time_since first time }
+{
+    let time = time?;
+    Some(i128::from(time) - i128::from(first.unwrap_or(time)))
 }
 
 /// The time of a packet, from the first one on, if it is known.

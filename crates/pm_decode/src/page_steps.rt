@@ -3,7 +3,7 @@ ghost use Rattle.std.specs.Prelude.{◌≡◌, Bool, None, Some, slice_index, tr
 ghost use Rattle.pm_trace.specs.ShownLines.{judged_in};
 ghost use Rattle.pm_trace.specs.Pages.{contradicted};
 ghost use Rattle.pm_trace.specs.declared.pages.PageUse.TheVariants.{Beside};
-ghost use Rattle.pm_decode.specs.PageSteps.{heard_if as spec_heard_if, is_lost as spec_is_lost, is_lost_shown as spec_is_lost_shown, is_received as spec_is_received, is_restart as spec_is_restart, is_unanswered as spec_is_unanswered, judged_address, marks_by, place_by, shown_change as spec_shown_change, shown_use as spec_shown_use, step_by, step_for as spec_step_for, sure_page as spec_sure_page, used_by};
+ghost use Rattle.pm_decode.specs.PageSteps.{heard_if as spec_heard_if, is_lost as spec_is_lost, is_lost_shown as spec_is_lost_shown, is_received as spec_is_received, is_page_restart as spec_is_restart, is_unanswered as spec_is_unanswered, judged_address, marks_by, place_by, shown_change as spec_shown_change, shown_use as spec_shown_use, page_step_by, step_for as spec_step_for, sure_page as spec_sure_page, used_by};
 ghost use Rattle.pm_decode.specs.ShownReadings.{packet_in};
 
 use crate::comment::ShownPacket;
@@ -48,7 +48,7 @@ pub struct Marks {
 
 /// The packet of a line as it comes; `lost` is whether nobody answered a code that its address answered before.
 pub fn page_step(pages: &Pages, gap: u64, lost: bool, line: &PacketLine<'_>) -> PageStep
-    ensures { result ≡ step_by gap line.now.time pages.now lost line.now.ones (packet_in line.now.packet) (judged_in line.now.shown.now) line.now.other }
+    ensures { result ≡ page_step_by gap line.now.time pages.now lost line.now.ones (packet_in line.now.packet) (judged_in line.now.shown.now) line.now.other }
 {
     let standing = Standing {
         is_clear: is_received(&line.packet, line.ones),
@@ -66,7 +66,7 @@ pub fn page_step(pages: &Pages, gap: u64, lost: bool, line: &PacketLine<'_>) -> 
 
 /// Whether a packet has no time and says nothing of PAGE, since it is clear and carries its own page: then it doesn't matter what is
 /// known of its page.
-#[tactic(auto, using(crate::proofs::BesideLemmas::named_beside))]
+#[tactic(auto, using(crate::proofs::Shown::named_beside))]
 pub fn is_beside(line: &PacketLine<'_>) -> bool
     ensures time { result ≡ true → line.now.time ≡ None }
     ensures used { result ≡ true → (lost : Bool)

@@ -7,9 +7,9 @@ ghost use Rattle.pm_lines.specs.Streams.{AppendsFront};
 ghost use Rattle.pm_trace.specs.TraceText.{IsOfDecode};
 ghost use Rattle.pm_trace.specs.Written.{Puts};
 ghost use Rattle.pm_decode.specs.CaptureText.{capture_end, capture_text, counts_text, empty_by as spec_empty_by};
-ghost use Rattle.pm_decode.specs.Capturing.{kept_at_end, kept_of, most_bytes, next, said_text, told as told_of, told_at_end};
+ghost use Rattle.pm_decode.specs.Capturing.{capture_at_end, kept_of, most_bytes, capture_with_bytes, said_text, told_of_capture as told_of, told_at_capture_end};
 ghost use Rattle.pm_decode.specs.LongEngine.{LongEnds};
-ghost use Rattle.pm_decode.specs.Outcome.{telling};
+ghost use Rattle.pm_decode.specs.Outcome.{telling_engine};
 ghost use Rattle.pm_decode.specs.WrittenCaptures.{Hears, StopsBytes, StopsHearing, WrittenCapture};
 
 use crate::TellOptions;
@@ -70,7 +70,7 @@ pub fn tell<R: Read, W: Write>(
     ensures ends { LongEnds (most_bytes options.now.long) (capture_text options.now) (said_text options.now)
         (capture_end options.now) (over R.remaining reader.old reader.new W.contents writer.old writer.new) result }
     // An input of at most 1 MiB ends as every engine does
-    ensures short { options.now.long ≡ false → EngineEnds (telling options.now)
+    ensures short { options.now.long ≡ false → EngineEnds (telling_engine options.now)
         (over R.remaining reader.old reader.new W.contents writer.old writer.new) result }
     ensures faults { IfErr result IsOfDecode }
 {
@@ -162,7 +162,7 @@ fn hear_piece<R: Read>(
 
 // Gathers what the lines say that end in these bytes.
 fn hear_bytes(capture: &mut Capture, gathered: &mut ToldText, bytes: &[u8]) -> Result<(), TextFault>
-    ensures kept { OnOk result (capture.new ≡ next capture.old bytes.now) }
+    ensures kept { OnOk result (capture.new ≡ capture_with_bytes capture.old bytes.now) }
     ensures told { OnOk result (gathered.new ≡ gathered.old ++ told_of capture.old bytes.now) }
     ensures room { OnOk result (capture.old.taken + length bytes.now ≤ most_bytes capture.old.options.long) }
     ensures stops { IfErr result (StopsBytes gathered.old gathered.new capture.old bytes.now) }
@@ -215,8 +215,8 @@ fn put_due<W: Write>(
 // Ends the capture, and gathers the rest of the output: an unfinished last line, and the counts.
 fn tell_end(capture: &mut Capture, gathered: &mut ToldText) -> Result<(), AllocError>
     ensures told { OnOk result (gathered.new ≡ gathered.old
-        ++ (told_at_end capture.old ++ counts_text capture.old.options (kept_at_end capture.old).heard)) }
-    ensures kept { OnOk result (capture.new ≡ kept_at_end capture.old) }
+        ++ (told_at_capture_end capture.old ++ counts_text capture.old.options (capture_at_end capture.old).heard)) }
+    ensures kept { OnOk result (capture.new ≡ capture_at_end capture.old) }
 {
     capture.finish(gathered)?;
     gathered.gather_counts(capture)

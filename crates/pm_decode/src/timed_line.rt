@@ -37,8 +37,8 @@ impl TimedLine {
     ghost use Rattle.std.specs.Prelude.{[], ◌==◌, None, if◌then◌else◌, true};
     ghost use Rattle.pm_trace.specs.OpenLines.{open_read};
     ghost use Rattle.pm_trace.specs.OpenLines.{IsAtLineFeed};
-    ghost use Rattle.pm_decode.specs.ShownReadings.{parts_in, reading_in};
-    ghost use Rattle.pm_decode.specs.TimedLines.{PassesTimed, begun_with, head_note, is_told, skips_timed, timed_of, timed_read, timed_takes, word_ended};
+    ghost use Rattle.pm_decode.specs.ShownReadings.{parts_in, reading_in_line};
+    ghost use Rattle.pm_decode.specs.TimedLines.{PassesTimed, line_begun_with, head_note, is_comment_full, skips_timed, timed_of, timed_read, timed_takes, word_ended};
 
     /// A line without bytes.
     #[tactic(auto, unfolding(crate::specs::TimedLines::timed_of))]
@@ -126,7 +126,7 @@ impl TimedLine {
     // Takes bytes that say nothing more, up to the first line feed, and gives what is left.
     #[tactic(auto, using(crate::specs::Lemmas::TimedLines::passes_none))]
     fn pass_over<'a>(&self, bytes: &'a [u8]) -> &'a [u8]
-        requires { is_told self.now ≡ true }
+        requires { is_comment_full self.now ≡ true }
         ensures { PassesTimed self.now bytes.entry.now result.now self.now }
     {
         let mut rest = bytes;
@@ -143,7 +143,7 @@ impl TimedLine {
 
     // Whether further bytes say nothing more: the line is a comment, and its first bytes are kept.
     fn is_told(&self) -> bool
-        ensures { result ≡ is_told self.now }
+        ensures { result ≡ is_comment_full self.now }
     {
         self.is_begun && self.has_mark && self.head.is_full()
     }
@@ -184,7 +184,7 @@ impl TimedLine {
 
     // Notes that the line has a byte, of which this is the first one if it had none.
     fn begin(&mut self, byte: u8)
-        ensures { self.new ≡ begun_with self.old byte }
+        ensures { self.new ≡ line_begun_with self.old byte }
     {
         self.has_mark = self.is_marked_with(byte);
         self.is_begun = true;
@@ -232,7 +232,7 @@ impl TimedLine {
 
     /// What the line reads as, if it ends here.
     pub fn reading(&self) -> LineReading<'_>
-        ensures { reading_in result ≡ timed_read self.now }
+        ensures { reading_in_line result ≡ timed_read self.now }
     {
         if !self.times {
             return LineReading {

@@ -32,9 +32,10 @@ impl ToldText {
     ghost use Rattle.std.specs.Prelude.{[], ◌+◌, ◌<◌, ◌≤◌, ◌++◌, ◌^◌, OnErr, OnOk, codes, decimal, length};
     ghost use Rattle.pm_decode.specs.UsualLines.{code_counted, usual_text};
     ghost use Rattle.pm_decode.specs.CaptureText.{counts_text, line_text};
-    ghost use Rattle.pm_decode.specs.Hearing.{heard_lines, heard_with};
+    ghost use Rattle.pm_decode.specs.Hearing.{heard_lines, line_heard_with};
+    ghost use Rattle.pm_decode.specs.Options.{is_plain};
     ghost use Rattle.pm_decode.specs.Readings.{Noted, Told};
-    ghost use Rattle.pm_decode.specs.ShownReadings.{reading_in};
+    ghost use Rattle.pm_decode.specs.ShownReadings.{reading_in_line};
 
     /// No line. Takes no memory.
     pub(crate) fn new(alloc: Global) -> ToldText
@@ -74,20 +75,22 @@ impl ToldText {
         &mut self,
         heard: &mut HeardLines,
         options: &TellOptions,
+        plain: bool,
         number: u64,
         line: &LineReading<'_>,
     ) -> Result<(), AllocError>
-        requires { heard_lines heard.old + 1 < 2 ^ 64 }
+        requires few { heard_lines heard.old + 1 < 2 ^ 64 }
+        requires plain { plain ≡ is_plain options.now }
         ensures told { OnOk result (self.new
-            ≡ self.old ++ line_text options.now heard.old.known (number, Told (reading_in line.now))) }
-        ensures heard { OnOk result (heard.new ≡ heard_with options.now heard.old (number, Told (reading_in line.now))) }
+            ≡ self.old ++ line_text options.now heard.old.known (number, Told (reading_in_line line.now))) }
+        ensures heard { OnOk result (heard.new ≡ line_heard_with options.now heard.old (number, Told (reading_in_line line.now))) }
         ensures unchanged { OnErr result (self.new ≡ self.old) }
         ensures few { heard_lines heard.new ≤ heard_lines heard.old + 1 }
     {
-        if options.is_plain()
+        if plain
             && line.time.is_none()
             && let Ok(packet) = &line.packet
-            && let Some(usual) = usual_of(packet)
+            && let Some(usual) = usual_of(packet.write, packet.read)
         {
             return self.hear_usual(heard, number, &usual);
         }
@@ -133,8 +136,8 @@ impl ToldText {
     ) -> Result<(), AllocError>
         requires { heard_lines heard.old + 1 < 2 ^ 64 }
         ensures told { OnOk result (self.new
-            ≡ self.old ++ line_text options.now heard.old.known (number, Told (reading_in line.now))) }
-        ensures heard { OnOk result (heard.new ≡ heard_with options.now heard.old (number, Told (reading_in line.now))) }
+            ≡ self.old ++ line_text options.now heard.old.known (number, Told (reading_in_line line.now))) }
+        ensures heard { OnOk result (heard.new ≡ line_heard_with options.now heard.old (number, Told (reading_in_line line.now))) }
         ensures unchanged { OnErr result (self.new ≡ self.old) }
         ensures few { heard_lines heard.new ≤ heard_lines heard.old + 1 }
     {
@@ -154,7 +157,7 @@ impl ToldText {
     ) -> Result<(), AllocError>
         ensures told { OnOk result (self.new
             ≡ self.old ++ line_text options.now heard.old.known (number, Noted note.now)) }
-        ensures heard { OnOk result (heard.new ≡ heard_with options.now heard.old (number, Noted note.now)) }
+        ensures heard { OnOk result (heard.new ≡ line_heard_with options.now heard.old (number, Noted note.now)) }
         ensures unchanged { OnErr result (self.new ≡ self.old) }
         ensures few { heard_lines heard.new ≡ heard_lines heard.old }
     {

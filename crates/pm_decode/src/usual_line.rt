@@ -13,7 +13,7 @@ use itoa::Buffer;
 use pm_frame::{FrameView, Payload};
 use pm_lines::hex_digits;
 use pm_table::Code;
-use pm_trace::{Packet, Shown, packet_shown};
+use pm_trace::{Shown, packet_shown};
 use std::alloc::AllocError;
 
 /// A good packet that carries at most two bytes and teaches nothing.
@@ -29,26 +29,24 @@ pub(crate) struct Usual {
 
 /// A packet as a usual one. The clauses leave open when None comes, and the caller shows such a packet as any other: this is
 /// only the quicker way.
-pub(crate) fn usual_of(packet: &Packet<'_>) -> Option<Usual>
-    ensures { IfSome result (λ usual.
-        IsUsual usual (parts_judged packet.now.write.now (option_map (λ bytes. bytes.now) packet.now.read))) }
+pub(crate) fn usual_of(write: &[u8], read: Option<&[u8]>) -> Option<Usual>
+    ensures { IfSome result (λ usual. IsUsual usual (parts_judged write.now (option_map (λ bytes. bytes.now) read.entry))) }
 {
-    match (packet.write, packet.read) {
-        ([_, code, 4, ..], None) if *code == Code::PAGE_PLUS_WRITE.0 => carried_write(packet.write),
+    match (write, read) {
+        ([_, code, 4, ..], None) if *code == Code::PAGE_PLUS_WRITE.0 => carried_write(write),
         ([_, code, 2, ..], Some(read)) if *code == Code::PAGE_PLUS_READ.0 => {
-            carried_read(packet.write, read)
+            carried_read(write, read)
         }
-        _ => shown_usual(packet),
+        _ => shown_usual(write, read),
     }
 }
 
 // A packet of any code as a usual one.
 #[inline(never)]
-fn shown_usual(packet: &Packet<'_>) -> Option<Usual>
-    ensures { IfSome result (λ usual.
-        IsUsual usual (parts_judged packet.now.write.now (option_map (λ bytes. bytes.now) packet.now.read))) }
+fn shown_usual(write: &[u8], read: Option<&[u8]>) -> Option<Usual>
+    ensures { IfSome result (λ usual. IsUsual usual (parts_judged write.now (option_map (λ bytes. bytes.now) read.entry))) }
 {
-    match packet_shown(packet.write, packet.read) {
+    match packet_shown(write, read) {
         Shown::Accepted { addr, view, answer } => match answer {
             Some(answer) => usual_answer(addr, &view, answer),
             None => usual_write(addr, &view),

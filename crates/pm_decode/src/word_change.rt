@@ -1,6 +1,6 @@
 //! What a packet may change of the words of registers.
 ghost use Rattle.std.specs.Prelude.{◌≡◌};
-ghost use Rattle.pm_decode.specs.WordChanges.{change_by as spec_change_by, end_by as spec_end_by, end_of_word as spec_end_of_word, is_change as spec_is_change, is_of_memory as spec_is_of_memory, is_watched as spec_is_watched, reaches_all as spec_reaches_all, word_change as spec_word_change};
+ghost use Rattle.pm_decode.specs.WordChanges.{word_change_by as spec_change_by, word_end_by as spec_end_by, end_of_word as spec_end_of_word, is_change as spec_is_change, is_of_memory as spec_is_of_memory, is_watched as spec_is_watched, reaches_all as spec_reaches_all, word_change as spec_word_change};
 
 use pm_table::Code;
 
@@ -47,7 +47,7 @@ pub(crate) fn word_change(write: &[u8]) -> WordChange
 }
 
 // What a packet may write by its code, the page that it names, and whether a byte of data follows the code.
-#[tactic(auto, unfolding(crate::specs::WordChanges::change_by))]
+#[tactic(auto, unfolding(crate::specs::WordChanges::word_change_by))]
 fn change_by(named: Option<u8>, code: u8, has_data: bool) -> WordChange
     ensures { result ≡ spec_change_by named code has_data }
 {

@@ -4,7 +4,7 @@ ghost use Rattle.pm_trace.specs.ShownLines.{judged_in};
 ghost use Rattle.pm_trace.specs.Contents.{content_in};
 ghost use Rattle.pm_trace.specs.Modes.{key_of as spec_key_of};
 ghost use Rattle.pm_decode.specs.ShownReadings.{packet_in};
-ghost use Rattle.pm_decode.specs.Words.{content_read as spec_content_read, content_shown as spec_content_shown, differs_from as spec_differs_from, is_other as spec_is_other, is_other_high as spec_is_other_high, last_of, output_read as spec_output_read, read_at as spec_read_at, single as spec_single, word_end as spec_word_end, word_in as spec_word_in, word_key as spec_word_key, word_read as spec_word_read};
+ghost use Rattle.pm_decode.specs.Words.{content_read as spec_content_read, content_shown as spec_content_shown, differs_from as spec_differs_from, is_other_word as spec_is_other, is_other_high as spec_is_other_high, last_of, output_read as spec_output_read, read_at as spec_read_at, single as spec_single, ended_by_packet as spec_word_end, word_in_answer as spec_word_in, word_key as spec_word_key, word_read as spec_word_read};
 
 use crate::comment::ShownPacket;
 use crate::page_steps::{Marks, is_received};
@@ -66,7 +66,7 @@ impl Model for Words {
 
 impl Words {
     ghost use Rattle.std.specs.Prelude.{OnOk};
-    ghost use Rattle.pm_decode.specs.Words.{changed_since, ended_by, is_kept as spec_is_kept, no_words, paged_by, read_said, word_said, words_aside, words_heard, words_lost, words_shown};
+    ghost use Rattle.pm_decode.specs.Words.{changed_since, words_ended_by, is_kept as spec_is_kept, no_words, paged_by, read_said, word_said, words_aside, words_heard, words_lost, words_shown};
 
     /// Nothing yet. Takes no memory.
     pub fn new(alloc: Global) -> Words
@@ -220,7 +220,7 @@ impl Words {
 
     // Takes that words of an address may have changed in this line.
     fn end(&mut self, line: u64, addr: u8, end: WordEnd) -> Result<(), AllocError>
-        ensures { OnOk result (self.new ≡ ended_by line addr end self.old) }
+        ensures { OnOk result (self.new ≡ words_ended_by line addr end self.old) }
     {
         match end {
             WordEnd::OfNone => {}

@@ -22,19 +22,19 @@ limit_of d register = record { register = register; word = (heard_of d register)
 abbrev pub reaches : Delivery → Question → Bool → Option Limit
 reaches d register is_inside = rule (is_good (heard_of d register) && not is_inside) (limit_of d register)
 
-abbrev pub upper : Delivery → Question → Shape → ℕ → Option Limit
-upper d register shape word =
+abbrev pub reached_upper_limit : Delivery → Question → Shape → ℕ → Option Limit
+reached_upper_limit d register shape word =
     reaches d register (is_above (shape_value shape (heard_of d register).word) (shape_value shape word))
 
-abbrev pub lower : Delivery → Question → Shape → ℕ → Option Limit
-lower d register shape word =
+abbrev pub reached_lower_limit : Delivery → Question → Shape → ℕ → Option Limit
+reached_lower_limit d register shape word =
     reaches d register (is_above (shape_value shape word) (shape_value shape (heard_of d register).word))
 
 -- VOUT_OV_FAULT_LIMIT or VOUT_UV_FAULT_LIMIT; VOUT_OV_WARN_LIMIT or VOUT_UV_WARN_LIMIT
 abbrev pub judgement_of : Delivery → Shape → ℕ → Judgement
 judgement_of d shape word = record {
-  fault = option_or (upper d OvFaultLimit shape word) (lower d UvFaultLimit shape word);
-  warning = option_or (upper d OvWarnLimit shape word) (lower d UvWarnLimit shape word);
+  fault = option_or (reached_upper_limit d OvFaultLimit shape word) (reached_lower_limit d UvFaultLimit shape word);
+  warning = option_or (reached_upper_limit d OvWarnLimit shape word) (reached_lower_limit d UvWarnLimit shape word);
 }
 
 -- P8 where it is a fault limit, and these aren't told alone

@@ -8,7 +8,7 @@ use Rattle.pm_delivery.specs.declared.question.Question.{Question}
 use Rattle.pm_delivery.specs.declared.question.Question.TheVariants.{Before, OvFaultLimit, OvWarnLimit, UvWarnLimit, UvFaultLimit, StatusWord}
 use Rattle.pm_delivery.specs.declared.question.Question.TheVariants.{StatusVout, StatusIout, StatusInput, StatusTemperature, ReadVout}
 use Rattle.pm_delivery.specs.declared.question.Question.TheVariants.{PowerGoodOn, PowerGoodOff}
-use Rattle.pm_delivery.specs.Heard.{is_good, nothing}
+use Rattle.pm_delivery.specs.Heard.{is_good, nothing_asked}
 use Rattle.pm_delivery.specs.StatusBits.{has_bit, input, iout_pout, off, power_good_not, status_input_faults, status_iout_faults}
 use Rattle.pm_delivery.specs.StatusBits.{status_temperature_faults, status_vout_faults, status_word_faults, temperature, vout}
 
@@ -59,19 +59,19 @@ new_delivery output limits lacks within rounds = record {
   within = within;
   rounds = rounds;
   round = 0;
-  before = nothing;
-  ov_fault_limit = nothing;
-  ov_warn_limit = nothing;
-  uv_warn_limit = nothing;
-  uv_fault_limit = nothing;
-  status_word = nothing;
-  status_vout = nothing;
-  status_iout = nothing;
-  status_input = nothing;
-  status_temperature = nothing;
-  read_vout = nothing;
-  power_good_on = nothing;
-  power_good_off = nothing;
+  before = nothing_asked;
+  ov_fault_limit = nothing_asked;
+  ov_warn_limit = nothing_asked;
+  uv_warn_limit = nothing_asked;
+  uv_fault_limit = nothing_asked;
+  status_word = nothing_asked;
+  status_vout = nothing_asked;
+  status_iout = nothing_asked;
+  status_input = nothing_asked;
+  status_temperature = nothing_asked;
+  read_vout = nothing_asked;
+  power_good_on = nothing_asked;
+  power_good_off = nothing_asked;
 }
 
 -- one of two bits says that the part lacks a register
@@ -97,14 +97,14 @@ looking_before d = record (new_delivery d.output d.fault_limits d.lacks d.within
 abbrev pub in_round : Delivery → ℕ → Delivery
 in_round d round = record d {
   round = round;
-  status_word = nothing;
-  status_vout = nothing;
-  status_iout = nothing;
-  status_input = nothing;
-  status_temperature = nothing;
-  read_vout = nothing;
-  power_good_on = nothing;
-  power_good_off = nothing;
+  status_word = nothing_asked;
+  status_vout = nothing_asked;
+  status_iout = nothing_asked;
+  status_input = nothing_asked;
+  status_temperature = nothing_asked;
+  read_vout = nothing_asked;
+  power_good_on = nothing_asked;
+  power_good_off = nothing_asked;
 }
 
 -- what the output does is looked at, after an order that turned it off, or that lowered it, or another one
@@ -173,17 +173,17 @@ abbrev pub lacks_power_good : Delivery → Bool
 lacks_power_good d = has d power_good_not
 
 -- the first of some bits of a register that is 1
-abbrev pub fault_bit : Question → ℕ → FaultBit
-fault_bit register place = record { register = register; place = place }
+abbrev pub register_fault_bit : Question → ℕ → FaultBit
+register_fault_bit register place = record { register = register; place = place }
 
 -- a fault of a status register whose summary in STATUS_WORD is new
 abbrev pub status_fault : Delivery → Question → ℕ → List ℕ → Option FaultBit
 status_fault d register summary places = if is_new d summary && is_good (heard_of d register)
-    then option_map (fault_bit register) (find (has_bit (heard_of d register).word) places) else None
+    then option_map (register_fault_bit register) (find (has_bit (heard_of d register).word) places) else None
 
 -- The fault that is new: of STATUS_WORD itself, or of a status register whose summary is.
 abbrev pub new_fault : Delivery → Option FaultBit
-new_fault d = option_or (option_map (fault_bit StatusWord) (find (is_new d) status_word_faults))
+new_fault d = option_or (option_map (register_fault_bit StatusWord) (find (is_new d) status_word_faults))
     (option_or (status_fault d StatusVout vout status_vout_faults)
     (option_or (status_fault d StatusIout iout_pout status_iout_faults)
     (option_or (status_fault d StatusInput input status_input_faults)

@@ -16,13 +16,13 @@ use Rattle.pm_delivery.specs.declared.reading.Reading.TheVariants as reading
 use Rattle.pm_delivery.specs.declared.verdict.Verdict.{Verdict}
 use Rattle.pm_delivery.specs.declared.verdict.Verdict.TheVariants.{Delivers, DeliversByVoltage, PowerGoodAlone}
 use Rattle.pm_delivery.specs.Deliveries.{has_status, has_vout, heard_of, is_new, is_off, limits_skip, look_after, look_before, look_off, looks_on, new_fault}
-use Rattle.pm_delivery.specs.Heard.{is_due, is_good}
+use Rattle.pm_delivery.specs.Heard.{is_question_due, is_good}
 use Rattle.pm_delivery.specs.StatusBits.{input, iout_pout, temperature, vout}
 use Rattle.pm_delivery.specs.Verdict.{verdict_on}
 
 -- a question is asked until a good answer came, so many times at most
 abbrev pub asks : Delivery → ℕ → Question → Option Question
-asks d passes question = rule (is_due passes (heard_of d question)) question
+asks d passes question = rule (is_question_due passes (heard_of d question)) question
 
 -- a status register is asked where its summary in STATUS_WORD is new
 abbrev pub asks_of : Delivery → ℕ → Question → ℕ → Option Question
@@ -38,11 +38,11 @@ is_left d = nat_lt d.round d.rounds && nat_lt 1 (d.rounds - d.round)
 
 -- READ_VOUT is asked where the part has it, the output isn't off, and no fault is new or a further round is left; of a part without STATUS_WORD
 -- always
-abbrev pub is_sound : Delivery → Bool
-is_sound d = is_good d.status_word && (not (is_off d) && (not (is_some (new_fault d)) || is_left d))
+abbrev pub is_vout_worth_reading : Delivery → Bool
+is_vout_worth_reading d = is_good d.status_word && (not (is_off d) && (not (is_some (new_fault d)) || is_left d))
 
 abbrev pub can_decide : Delivery → Bool
-can_decide d = has_vout d && (not (has_status d) || is_sound d)
+can_decide d = has_vout d && (not (has_status d) || is_vout_worth_reading d)
 
 abbrev pub asks_vout : Delivery → ℕ → Option Question
 asks_vout d passes = if can_decide d then asks d passes ReadVout else None
@@ -53,8 +53,8 @@ asks_limits d passes = if d.fault_limits == limits_skip then None
     else option_or (asks d passes OvFaultLimit) (option_or (asks d passes OvWarnLimit)
     (option_or (asks d passes UvWarnLimit) (asks d passes UvFaultLimit)))
 
-abbrev pub due_before : Delivery → ℕ → Option Question
-due_before d passes = option_or (asks_status d passes Before) (asks_limits d passes)
+abbrev pub question_due_before : Delivery → ℕ → Option Question
+question_due_before d passes = option_or (asks_status d passes Before) (asks_limits d passes)
 
 -- in each round: STATUS_WORD, the status registers whose summary is new, and READ_VOUT
 abbrev pub due_in_round : Delivery → ℕ → Option Question
@@ -65,35 +65,35 @@ due_in_round d passes = option_or (asks_status d passes StatusWord)
     (option_or (asks_of d passes StatusTemperature temperature) (asks_vout d passes)))))
 
 -- a question, where there is one
-abbrev pub asked : Option Question → Due
-asked None = Nothing
-asked (Some question) = Ask question
+abbrev pub due_question : Option Question → Due
+due_question None = Nothing
+due_question (Some question) = Ask question
 
 abbrev pub again_or : Delivery → Option Question → Due
-again_or d last = if is_left d then Again else asked last
+again_or d last = if is_left d then Again else due_question last
 
 -- once a round has ended: nothing more where the rail delivers; otherwise a further round; and in the last one, where power good alone is
 -- missing, at which voltages that begins and ends
-abbrev pub due_by : Delivery → ℕ → Verdict → Due
-due_by d passes Delivers = Nothing
-due_by d passes DeliversByVoltage = Nothing
-due_by d passes PowerGoodAlone = again_or d (option_or (asks d passes PowerGoodOn) (asks d passes PowerGoodOff))
-due_by d passes verdict = again_or d None
+abbrev pub due_after_round : Delivery → ℕ → Verdict → Due
+due_after_round d passes Delivers = Nothing
+due_after_round d passes DeliversByVoltage = Nothing
+due_after_round d passes PowerGoodAlone = again_or d (option_or (asks d passes PowerGoodOn) (asks d passes PowerGoodOff))
+due_after_round d passes verdict = again_or d None
 
 -- A rail fails at once that is off with a new fault, or that is above its upper limit after an order that didn't lower it. What else is wrong may
 -- end until the last round.
-abbrev pub is_above : Reading → Bool
-is_above reading.NotKnown = false
-is_above reading.Outside = false
-is_above reading.Above = true
-is_above reading.Beyond = false
-is_above reading.Right = false
+abbrev pub is_reading_above : Reading → Bool
+is_reading_above reading.NotKnown = false
+is_reading_above reading.Outside = false
+is_reading_above reading.Above = true
+is_reading_above reading.Beyond = false
+is_reading_above reading.Right = false
 
 abbrev pub fails_at_once : Delivery → Reading → Bool
-fails_at_once d reading = is_off d && is_some (new_fault d) || d.look == look_after && is_above reading
+fails_at_once d reading = is_off d && is_some (new_fault d) || d.look == look_after && is_reading_above reading
 
 abbrev pub due_round_over : Delivery → ℕ → Reading → Due
-due_round_over d passes reading = if fails_at_once d reading then Nothing else due_by d passes (verdict_on d reading)
+due_round_over d passes reading = if fails_at_once d reading then Nothing else due_after_round d passes (verdict_on d reading)
 
 abbrev pub due_or : Option Question → Due → Due
 due_or None due = due
@@ -115,6 +115,6 @@ due_on d passes power.NotKnown reading = Nothing
 -- what is due, of an output with this power whose last reading stands so
 abbrev pub due_of : Delivery → ℕ → Power → Reading → Due
 due_of d passes power reading =
-    if d.look == look_before then asked (due_before d passes)
+    if d.look == look_before then due_question (question_due_before d passes)
     else (if looks_on d then due_on d passes power reading
     else (if d.look == look_off then due_off d passes else Nothing))

@@ -25,7 +25,7 @@ verdict_at power.NotKnown due verdict = NotKnownOn
 verdict_at power.On due verdict = once_over due verdict
 
 -- what the rail does, of an output with this power whose last reading stands so
-abbrev pub verdict_of : Delivery → ℕ → Power → Reading → Verdict
-verdict_of d passes power reading =
+abbrev pub delivery_verdict_of : Delivery → ℕ → Power → Reading → Verdict
+delivery_verdict_of d passes power reading =
     if looks_on d then verdict_at power (due_of d passes power reading) (verdict_on d reading)
     else (if d.look == look_off then once_over (due_of d passes power reading) (verdict_off d) else NotYet)

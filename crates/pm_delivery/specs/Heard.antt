@@ -3,16 +3,16 @@ use Rattle.std.specs.Prelude.{ℕ, ◌+◌, ◌==◌, ◌&&◌, not, nat_lt, if�
 use Rattle.pm_delivery.specs.declared.heard.Heard.{Heard}
 
 -- nothing was asked
-abbrev pub nothing : Heard
-nothing = record { asked = 0; fault = 0; word = 0 }
+abbrev pub nothing_asked : Heard
+nothing_asked = record { asked = 0; fault = 0; word = 0 }
 
 -- a good answer came
 abbrev pub is_good : Heard → Bool
 is_good h = not (h.asked == 0) && h.fault == 0
 
 -- it is to be asked, where each question is asked so many times at most
-abbrev pub is_due : ℕ → Heard → Bool
-is_due passes h = not (is_good h) && nat_lt h.asked passes
+abbrev pub is_question_due : ℕ → Heard → Bool
+is_question_due passes h = not (is_good h) && nat_lt h.asked passes
 
 -- one answer more, good or not; 255 are counted at most
 abbrev pub asked_more : ℕ → ℕ

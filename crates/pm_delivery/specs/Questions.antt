@@ -49,21 +49,21 @@ abbrev pub no_answer : ℕ
 no_answer = 1
 
 -- the word of a payload, its low byte first; of one byte that byte
-abbrev pub word_in : List ℕ → ℕ
-word_in payload = slice_index payload 0 + slice_index payload 1 * 256
+abbrev pub word_in_payload : List ℕ → ℕ
+word_in_payload payload = slice_index payload 0 + slice_index payload 1 * 256
 
 -- the word of a good answer, or the number of what is wrong with the bytes
 abbrev pub answer_by : List ℕ → Option FrameFault → Result ℕ ℕ
-answer_by bytes None = Ok (word_in (block_payload bytes))
+answer_by bytes None = Ok (word_in_payload (block_payload bytes))
 answer_by bytes (Some fault) = Err (frame_fault_number fault)
 
-abbrev pub answer_in : ℕ → ℕ → Question → List ℕ → Result ℕ ℕ
-answer_in addr output question bytes = if length bytes == 0 then Err no_answer
+abbrev pub answer_to_question : ℕ → ℕ → Question → List ℕ → Result ℕ ℕ
+answer_to_question addr output question bytes = if length bytes == 0 then Err no_answer
     else answer_by bytes (paged_fault addr output (question_code question) (Some (question_size question)) bytes)
 
 -- the bytes that came back for a read of OPERATION are a good answer with a byte that leaves the output off
 abbrev pub off_by : List ℕ → Option FrameFault → Bool
-off_by bytes None = not (has_on (word_in (block_payload bytes)))
+off_by bytes None = not (has_on (word_in_payload (block_payload bytes)))
 off_by bytes (Some fault) = false
 
 abbrev pub answers_off : ℕ → ℕ → List ℕ → Bool

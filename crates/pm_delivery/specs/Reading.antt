@@ -18,8 +18,8 @@ abbrev pub share : ℕ → ℕ
 share within = if nat_lt 1000 within then 1000 else within
 
 -- the numerator of the first of two fractions over the product of their denominators
-abbrev pub over : Ratio → Ratio → ℤ
-over p q = p.num *ℤ pos q.den
+abbrev pub numerator_over : Ratio → Ratio → ℤ
+numerator_over p q = p.num *ℤ pos q.den
 
 -- a gap is more than so many thousandths of a number's size
 abbrev pub is_more : ℕ → ℤ → ℤ → Bool
@@ -27,10 +27,10 @@ is_more within of gap = int_lt (pos (unsigned_abs of * share within)) (pos 1000 
 
 -- a value is below another one, or above it, by more than so many thousandths of that one
 abbrev pub is_below : ℕ → Ratio → Ratio → Bool
-is_below within value from = is_more within (over from value) (over from value -ℤ over value from)
+is_below within value from = is_more within (numerator_over from value) (numerator_over from value -ℤ numerator_over value from)
 
-abbrev pub is_beyond : ℕ → Ratio → Ratio → Bool
-is_beyond within value from = is_more within (over from value) (over value from -ℤ over from value)
+abbrev pub lies_beyond : ℕ → Ratio → Ratio → Bool
+lies_beyond within value from = is_more within (numerator_over from value) (numerator_over value from -ℤ numerator_over from value)
 
 -- the band of one value
 abbrev pub alone : Ratio → Band
@@ -45,7 +45,7 @@ is_over (Between bounds) value = is_above value (micros bounds.most)
 abbrev pub reading_of : OutputLimits → ℕ → Ratio → Band → Reading
 reading_of limits within value band =
     if is_no (within_of limits (Some (alone value))) then (if is_over limits value then Above else Outside)
-    else (if is_below within value band.least || is_beyond within value band.greatest then Beyond else Right)
+    else (if is_below within value band.least || lies_beyond within value band.greatest then Beyond else Right)
 
 abbrev pub reading_by : OutputLimits → Delivery → Option Shape → Option Band → Reading
 reading_by limits d None band = NotKnown

@@ -20,14 +20,14 @@ abbrev pub not_known : Delivery → Question → Verdict
 not_known d register = NotKnown register (heard_of d register).fault
 
 -- a status register whose summary in STATUS_WORD is new, and that gave no good answer
-abbrev pub is_unanswered : Delivery → Question → ℕ → Bool
-is_unanswered d register summary = is_new d summary && not (is_good (heard_of d register))
+abbrev pub is_status_unanswered : Delivery → Question → ℕ → Bool
+is_status_unanswered d register summary = is_new d summary && not (is_good (heard_of d register))
 
 abbrev pub unanswered : Delivery → Option Question
-unanswered d = option_or (rule (is_unanswered d StatusVout vout) StatusVout)
-    (option_or (rule (is_unanswered d StatusIout iout_pout) StatusIout)
-    (option_or (rule (is_unanswered d StatusInput input) StatusInput)
-    (rule (is_unanswered d StatusTemperature temperature) StatusTemperature)))
+unanswered d = option_or (rule (is_status_unanswered d StatusVout vout) StatusVout)
+    (option_or (rule (is_status_unanswered d StatusIout iout_pout) StatusIout)
+    (option_or (rule (is_status_unanswered d StatusInput input) StatusInput)
+    (rule (is_status_unanswered d StatusTemperature temperature) StatusTemperature)))
 
 -- power good where READ_VOUT is right, and where the part has none
 abbrev pub verdict_right : Delivery → Verdict

@@ -3,7 +3,7 @@
 ghost use Rattle.std.specs.Prelude.{◌≡◌, ◌≤◌, length};
 ghost use Rattle.pm_frame.specs.PagedRead.{paged_request as spec_paged_request};
 ghost use Rattle.pm_table.specs.Address.{IsAddress};
-ghost use Rattle.pm_delivery.specs.Questions.{answer_in, answers_off as spec_answers_off, question_code, question_size, word_in};
+ghost use Rattle.pm_delivery.specs.Questions.{answer_to_question, answers_off as spec_answers_off, question_code, question_size, word_in_payload};
 
 use crate::question::Question;
 use pm_frame::{paged_request, read_paged};
@@ -24,7 +24,7 @@ pub fn request(addr: u8, output: u8, question: Question) -> [u8; 5]
 /// 1 if none came.
 pub fn answer_of(addr: u8, output: u8, question: Question, bytes: &[u8]) -> Result<u16, u8>
     requires { IsAddress addr }
-    ensures { result ≡ answer_in addr output question bytes.now }
+    ensures { result ≡ answer_to_question addr output question bytes.now }
 {
     if bytes.is_empty() {
         return Err(NO_ANSWER);
@@ -55,7 +55,7 @@ pub fn answers_off(addr: u8, output: u8, bytes: &[u8]) -> bool
 
 // The word of one byte or two, the low one first.
 fn word_of(payload: &[u8]) -> u16
-    ensures { result ≡ word_in payload.now }
+    ensures { result ≡ word_in_payload payload.now }
 {
     match payload {
         [] => 0,

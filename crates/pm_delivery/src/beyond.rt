@@ -2,7 +2,7 @@
 
 ghost use Rattle.std.specs.Prelude.{◌≡◌};
 ghost use Rattle.pm_num.specs.AnyFormat.{shape_of};
-ghost use Rattle.pm_delivery.specs.Beyond.{judgement_of, lower as spec_lower, reaches as spec_reaches, refusal_of, upper as spec_upper};
+ghost use Rattle.pm_delivery.specs.Beyond.{judgement_of, reached_lower_limit as spec_lower, reaches as spec_reaches, refusal_of, reached_upper_limit as spec_upper};
 
 use crate::delivery::{Delivery, LIMITS_TELL};
 use crate::fault::DeliveryFault;

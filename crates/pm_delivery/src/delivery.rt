@@ -2,7 +2,7 @@
 
 ghost use Rattle.std.specs.Prelude.{◌≡◌, find, option_map, true, false};
 ghost use Rattle.pm_delivery.specs.Deliveries.{again, first_question as spec_first_question, has as spec_has, has_status as spec_has_status, has_vout as spec_has_vout, lacks_any, heard_of, in_round};
-ghost use Rattle.pm_delivery.specs.Deliveries.{fault_bit, is_new as spec_is_new, is_off as spec_is_off, is_unexplained as spec_is_unexplained, lacks_power_good as spec_lacks_power_good, look_of as spec_look_of, looks_on as spec_looks_on};
+ghost use Rattle.pm_delivery.specs.Deliveries.{register_fault_bit, is_new as spec_is_new, is_off as spec_is_off, is_unexplained as spec_is_unexplained, lacks_power_good as spec_lacks_power_good, look_of as spec_look_of, looks_on as spec_looks_on};
 ghost use Rattle.pm_delivery.specs.Deliveries.{looking_after, looking_before, new_delivery, new_fault as spec_new_fault, next_round as spec_next_round, status_fault as spec_status_fault, with_heard};
 ghost use Rattle.pm_delivery.specs.Heard.{heard_after};
 ghost use Rattle.pm_delivery.specs.StatusBits.{status_word_faults};
@@ -307,7 +307,7 @@ impl Delivery {
 
     // The first fault of STATUS_WORD itself that is new.
     fn status_word_fault(&self) -> Option<FaultBit>
-        ensures { result ≡ option_map (fault_bit Question.StatusWord) (find (spec_is_new self.now) status_word_faults) }
+        ensures { result ≡ option_map (register_fault_bit Question.StatusWord) (find (spec_is_new self.now) status_word_faults) }
     {
         fault_in(Question::StatusWord, self.first_new())
     }
@@ -382,7 +382,7 @@ fn look_of(is_off: bool, lowers: bool) -> u8
 
 // A fault of a register, if there is one.
 fn fault_in(register: Question, place: Option<u8>) -> Option<FaultBit>
-    ensures { result ≡ option_map (fault_bit register) place }
+    ensures { result ≡ option_map (register_fault_bit register) place }
 {
     match place {
         Some(place) => Some(FaultBit { register, place }),

@@ -1,8 +1,8 @@
 //! What is asked next.
 
 ghost use Rattle.std.specs.Prelude.{◌≡◌};
-ghost use Rattle.pm_delivery.specs.Due.{again_or, asked as spec_asked, asks, asks_limits, asks_of, asks_status, asks_vout, is_sound as spec_is_sound, can_decide as spec_can_decide, due_after as spec_due_after, due_before as spec_due_before};
-ghost use Rattle.pm_delivery.specs.Due.{due_by as spec_due_by, due_in_round as spec_due_in_round, due_of, due_off as spec_due_off, due_on as spec_due_on, due_or as spec_due_or, due_round_over, fails_at_once as spec_fails_at_once, is_above as spec_is_above, is_left as spec_is_left};
+ghost use Rattle.pm_delivery.specs.Due.{again_or, due_question as spec_asked, asks, asks_limits, asks_of, asks_status, asks_vout, is_vout_worth_reading as spec_is_sound, can_decide as spec_can_decide, due_after as spec_due_after, question_due_before as spec_due_before};
+ghost use Rattle.pm_delivery.specs.Due.{due_after_round as spec_due_by, due_in_round as spec_due_in_round, due_of, due_off as spec_due_off, due_on as spec_due_on, due_or as spec_due_or, due_round_over, fails_at_once as spec_fails_at_once, is_reading_above as spec_is_above, is_left as spec_is_left};
 
 use crate::delivery::{Delivery, LIMITS_SKIP, LOOK_AFTER, LOOK_BEFORE, LOOK_LOWERED, LOOK_OFF};
 use crate::question::Question;

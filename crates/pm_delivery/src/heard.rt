@@ -1,7 +1,7 @@
 //! What came of one question of a look.
 
 ghost use Rattle.std.specs.Prelude.{◌≡◌};
-ghost use Rattle.pm_delivery.specs.Heard.{asked_more as spec_asked_more, heard_after, is_due, is_good};
+ghost use Rattle.pm_delivery.specs.Heard.{asked_more as spec_asked_more, heard_after, is_question_due, is_good};
 
 /// What came of one question, as plain numbers. What was never asked has zeros.
 #[repr(C)]
@@ -32,7 +32,7 @@ impl Heard {
 
     /// Whether it is to be asked: no good answer came, and it was asked fewer times than this.
     pub(crate) fn is_due(self, passes: u8) -> bool
-        ensures { result ≡ is_due passes self }
+        ensures { result ≡ is_question_due passes self }
     {
         !self.is_good() && self.asked < passes
     }

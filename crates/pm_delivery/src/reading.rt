@@ -4,7 +4,7 @@ ghost use Rattle.std.specs.Prelude.{◌≡◌, ◌≤◌, ◌<◌, ◌^◌, unsi
 ghost use Rattle.pm_delivery.specs.Heard.{is_good as spec_is_good};
 ghost use Rattle.pm_host.specs.Image.{held};
 ghost use Rattle.pm_num.specs.Ratio.{micros};
-ghost use Rattle.pm_delivery.specs.Reading.{is_below as spec_is_below, is_beyond as spec_is_beyond, is_more as spec_is_more, is_over as spec_is_over, over as spec_over, reading_in, reading_of as spec_reading_of, share as spec_share};
+ghost use Rattle.pm_delivery.specs.Reading.{is_below as spec_is_below, lies_beyond as spec_is_beyond, is_more as spec_is_more, is_over as spec_is_over, numerator_over as spec_over, reading_in, reading_of as spec_reading_of, share as spec_share};
 
 use crate::delivery::Delivery;
 use pm_host::State;

@@ -4,8 +4,8 @@ ghost use Rattle.std.specs.Prelude.{◌≡◌, true, false, None};
 ghost use Rattle.pm_delivery.specs.Deliveries.{has as spec_has, has_status as spec_has_status, has_vout as spec_has_vout, is_off as spec_is_off, lacks_power_good as spec_lacks_power_good};
 ghost use Rattle.pm_delivery.specs.Heard.{is_good as spec_is_good};
 ghost use Rattle.pm_delivery.specs.StatusBits.{off, power_good_not};
-ghost use Rattle.pm_delivery.specs.Ended.{once_over, verdict_at as spec_verdict_at, verdict_of};
-ghost use Rattle.pm_delivery.specs.Verdict.{is_unanswered as spec_is_unanswered, not_known as spec_not_known, unanswered as spec_unanswered, verdict_alone as spec_verdict_alone, verdict_by as spec_verdict_by, verdict_status as spec_verdict_status, verdict_off as spec_verdict_off, verdict_on as spec_verdict_on, verdict_sound as spec_verdict_sound, verdict_with as spec_verdict_with};
+ghost use Rattle.pm_delivery.specs.Ended.{once_over, verdict_at as spec_verdict_at, delivery_verdict_of};
+ghost use Rattle.pm_delivery.specs.Verdict.{is_status_unanswered as spec_is_unanswered, not_known as spec_not_known, unanswered as spec_unanswered, verdict_alone as spec_verdict_alone, verdict_by as spec_verdict_by, verdict_status as spec_verdict_status, verdict_off as spec_verdict_off, verdict_on as spec_verdict_on, verdict_sound as spec_verdict_sound, verdict_with as spec_verdict_with};
 ghost use Rattle.pm_delivery.specs.Deliveries.{new_fault};
 ghost use Rattle.pm_table.specs.Rules.{rule};
 
@@ -54,7 +54,7 @@ impl Delivery {
     /// What the rail does, if each question is asked at most so often until a good answer comes, of an output with this power
     /// whose last reading of READ_VOUT stands so.
     pub fn verdict(&self, passes: u8, power: Power, reading: Reading) -> Verdict
-        ensures value { result ≡ verdict_of self.now passes power reading }
+        ensures value { result ≡ delivery_verdict_of self.now passes power reading }
         ensures on { result ≡ Verdict.Delivers → power ≡ Power.On }
         ensures word { result ≡ Verdict.Delivers → spec_is_good self.now.status_word ≡ true }
         ensures is_not_off { result ≡ Verdict.Delivers → spec_has self.now off ≡ false }

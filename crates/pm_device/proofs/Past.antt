@@ -27,13 +27,14 @@ use Rattle.pm_device.specs.{declared.converter.Heard.TheVariants.Taken, declared
 use Rattle.pm_device.specs.Effect.{Event, Hearing, Restarted, Reading, Kept, Outcome, Heard, Restarts, outcome_of, kept_by, started}
 use Rattle.pm_device.specs.Effect.{kept_in, kept_after}
 use Rattle.pm_device.specs.Held.{Held, Measured, CmlFaults, value_for}
-use Rattle.pm_device.specs.History.{each_output, now, start_of, cleared as history_cleared, cut_by, fault_by, faults_by, after, next}
+use Rattle.pm_device.specs.History.{each_output, device_now, start_of, cleared as history_cleared, cut_by, cml_bit_after, faults_by}
+use Rattle.pm_device.specs.History.{after_outcome, device_next}
 use Rattle.pm_device.specs.History.{AreHeard, IsEverHad, WasCarried, WasEverCarried, loads, saves, loaded_word, stored_word}
 use Rattle.pm_device.specs.Reply.{reply_to, reply_of}
 use Rattle.pm_device.specs.Start.{start_word, start_words, IsSound}
-use Rattle.pm_device.specs.Status.{cut_at, kept, CmlBit, Command, Data, Pec, OtherCommunication, Moment, has_bit, moments, from_last}
+use Rattle.pm_device.specs.Status.{cut_at, kept, CmlBit, Command, Data, Pec, OtherCommunication, Moment, has_bit_set, moments, from_last}
 use Rattle.pm_device.specs.Status.{act_clears_vout, act_clears_cml, clears, sets_cml, is_output_cut, vout_in, cml_in}
-use Rattle.pm_device.specs.Verdict.{written_word, output_in, names_no_output, act_in, selects_no_output, is_accepted, act_verdict}
+use Rattle.pm_device.specs.Verdict.{written_word, output_in, names_no_output, act_in, selects_no_output, is_act_accepted, act_verdict}
 use Rattle.pm_device.specs.Verdict.{write_verdict, read_verdict, answers_coefficients, fault_verdict, unless_faulty, verdict_of, CanAct}
 use Rattle.pm_device.specs.Verdict.{ActsOn, payload_word}
 use Rattle.pm_device.specs.declared.act.Act.TheVariants.{Put, Select, ClearFaults, ClearVout, ClearCml, Store, Restore}
@@ -67,7 +68,7 @@ pub record IsTaken (config : Config) (words : Words) (page : ℕ) (message : Mes
   pub there : names_no_output config.count message ≡ false
   pub selected : selects_no_output config.count act ≡ false
   pub allowed : is_allowed (word_at words Protect) (message_code message) ≡ true
-  pub accepted : is_accepted act ≡ true
+  pub accepted : is_act_accepted act ≡ true
 
 -- what an act results in is taken only where nothing refuses it
 chosen : (a b c : Bool) (found act : Act)
@@ -89,14 +90,14 @@ write-taken config words page message act e =
       go None is none = cc
       go (Some found) is taken =
           let parts = chosen (names_no_output config.count message || selects_no_output config.count found)
-          (is_allowed (word_at words Protect) (message_code message)) (is_accepted found) found act taken in
+          (is_allowed (word_at words Protect) (message_code message)) (is_act_accepted found) found act taken in
           let outside = or_parts (names_no_output config.count message) (selects_no_output config.count found) parts.0 in
           record {
             asked = is ∙ ap (λ a. Some a) parts.3;
             there = outside.0;
             selected = subst (λ a. selects_no_output config.count a ≡ false) parts.3 outside.1;
             allowed = parts.1;
-            accepted = subst (λ a. is_accepted a ≡ true) parts.3 parts.2;
+            accepted = subst (λ a. is_act_accepted a ≡ true) parts.3 parts.2;
           }
 
 -- no fault is a write that is taken
@@ -211,7 +212,8 @@ output-there count page message e here = go (message_page message) e where
   go (Some named) h = within named (ltb named count) refl h
 
 -- an act that is taken names an output that exists, and a word that its cell accepts
-can-act : (count output : ℕ) (act : Act) → output < count → ActsOn output act → selects_no_output count act ≡ false → is_accepted act ≡ true
+can-act : (count output : ℕ) (act : Act) → output < count → ActsOn output act → selects_no_output count act ≡ false → is_act_accepted act
+    ≡ true
     → CanAct count act
 can-act count output (Put (Out named register) word) here on selected accepted = (subst (λ n. n < count) (sym on) here, accepted)
 can-act count output (Put Protect word) here on selected accepted = (tt, accepted)
@@ -331,7 +333,7 @@ any-stopped test false before = refl
 
 -- one more moment of a bit of STATUS_CML
 cml-step : (config : Config) (past : List Event) (event : Event) (bit : CmlBit) →
-    cml_in config (event ∷ past) bit ≡ fault_by (came config past event) bit (cml_in config past bit)
+    cml_in config (event ∷ past) bit ≡ cml_bit_after (came config past event) bit (cml_in config past bit)
 unfolding cml_in moments came
 cml-step config past event bit =
     let outcome = outcome_of config (kept config past) event in
@@ -528,7 +530,7 @@ module _ (map : SettingsAreAMap) (alone : OutputsStandAlone) (config : Config) (
       (λ output there.
       ap (λ b. is_output_cut config (kept config past).words output || cond b false (before output))
       (and-holds (eqb place output)))
-  cut-step (Heard (Takes (ClearVout place byte))) can = one-cleared place (has_bit byte 0x08)
+  cut-step (Heard (Takes (ClearVout place byte))) can = one-cleared place (has_bit_set byte 0x08)
   cut-step Restarts can =
       let store = (kept config past).store in
       each_output-same (is_output_cut config store) (λ output. is_output_cut config store output || false)
@@ -548,8 +550,8 @@ module _ (map : SettingsAreAMap) (alone : OutputsStandAlone) (config : Config) (
 
   -- the bits of STATUS_CML after one more event
   faults-step : (event : Event) →
-      (now config (event ∷ past)).faults ≡ faults_by (now config past).faults (came config past event)
-  unfolding now
+      (device_now config (event ∷ past)).faults ≡ faults_by (device_now config past).faults (came config past event)
+  unfolding device_now
   faults-step event =
       let command = cml-step config past event Command in
       let unsupported = cml-step config past event Data in
@@ -558,15 +560,15 @@ module _ (map : SettingsAreAMap) (alone : OutputsStandAlone) (config : Config) (
       cc
 
   -- what is held after one more event
-  pub now-next : (event : Event) → now config (event ∷ past) ≡ next (now config past) event
-  unfolding now next after kept came held-of
+  pub now-next : (event : Event) → device_now config (event ∷ past) ≡ device_next (device_now config past) event
+  unfolding device_now device_next after_outcome kept came held-of
   now-next event =
       held-same config (kept_by (kept config past) (came config past event))
       refl (vout-table event) (faults-step event)
 
 -- what is held at the start
-pub now-nil : (config : Config) → now config [] ≡ start_of config
-unfolding now start_of kept vout_in cml_in moments
+pub now-nil : (config : Config) → device_now config [] ≡ start_of config
+unfolding device_now start_of kept vout_in cml_in moments
 now-nil config =
     let cut =
     each_output-same (λ output. is_output_cut config (started config).words output || false)
@@ -575,18 +577,18 @@ now-nil config =
     cc
 
 -- PAGE names an output
-pub now-page : (config : Config) (past : List Event) → 1 ≤ config.count → (now config past).page < config.count
-unfolding now
+pub now-page : (config : Config) (past : List Event) → 1 ≤ config.count → (device_now config past).page < config.count
+unfolding device_now
 now-page config past some = kept-page config past some
 
 -- there is a word for each cell
-pub now-words : SettingsAreAMap → (config : Config) (past : List Event) → AreWords (now config past).words
-unfolding now
+pub now-words : SettingsAreAMap → (config : Config) (past : List Event) → AreWords (device_now config past).words
+unfolding device_now
 now-words map config past = (kept-full map config past).words
 
 -- each cell has a word in the store
-pub now-store : SettingsAreAMap → (config : Config) (past : List Event) → AreWords (now config past).store
-unfolding now
+pub now-store : SettingsAreAMap → (config : Config) (past : List Event) → AreWords (device_now config past).store
+unfolding device_now
 now-store map config past = (kept-full map config past).store
 
 -- The frames and start words that the words of the cells come from, over a converter's whole past.
@@ -663,15 +665,15 @@ later-had config past event cell word (inr h) = inr (later-ever config past even
 -- a frame that is taken is answered so
 taken-now : (config : Config) (past : List Event) (bytes : List ℕ) (act : Act) →
     verdict_of config (kept config past).words (kept config past).page bytes Stop ≡ Takes act →
-    reply_of (now config past) bytes Stop ≡ Taken
-unfolding reply_of now
-taken-now config past bytes act e = ap (λ v. reply_to (now config past) v) e
+    reply_of (device_now config past) bytes Stop ≡ Taken
+unfolding reply_of device_now
+taken-now config past bytes act e = ap (λ v. reply_to (device_now config past) v) e
 
 -- a frame that puts a word now carried it
 carried-now : WritesAreExact → (config : Config) (past : List Event) (bytes : List ℕ) (ending : Ending) (cell : Cell) (word : ℕ) →
     AreBytes bytes × (verdict_of config (kept config past).words (kept config past).page bytes ending ≡ Takes (Put cell word)) →
     WasCarried config (Hearing bytes ending ∷ past) cell word
-unfolding now
+unfolding device_now
 carried-now exact config past bytes ending cell word (are, e) =
     let words = (kept config past).words in
     let page = (kept config past).page in
@@ -790,9 +792,9 @@ module _ (map : SettingsAreAMap) (told : CellsAreToldApart) where
 
   pub now-origin : WritesAreExact → (config : Config) (past : List Event) (cell : Cell) →
       IsCount config → AreHeard past → IsCell config.count cell →
-      (word_at (now config past).words cell ≡ loaded_word config past cell)
-      ⊎ WasCarried config past cell (word_at (now config past).words cell)
-  unfolding now HasOrigin
+      (word_at (device_now config past).words cell ≡ loaded_word config past cell)
+      ⊎ WasCarried config past cell (word_at (device_now config past).words cell)
+  unfolding device_now HasOrigin
   now-origin exact config past cell count heard here = kept-origin exact config past cell count heard here
 
   -- each cell's word, and the one in the store, was ever had
@@ -830,9 +832,9 @@ module _ (map : SettingsAreAMap) (told : CellsAreToldApart) where
 
   pub now-ever : WritesAreExact → (config : Config) (past : List Event) (cell : Cell) →
       IsCount config → AreHeard past → IsCell config.count cell →
-      IsEverHad config past cell (word_at (now config past).words cell)
-      × IsEverHad config past cell (word_at (now config past).store cell)
-  unfolding now
+      IsEverHad config past cell (word_at (device_now config past).words cell)
+      × IsEverHad config past cell (word_at (device_now config past).store cell)
+  unfolding device_now
   now-ever exact config past cell count heard here = kept-ever exact config past cell count heard here
 
   -- a cell has its word in the store
@@ -846,8 +848,8 @@ module _ (map : SettingsAreAMap) (told : CellsAreToldApart) where
       ∙ ap (λ w. cond (saves cell (outcome_of config before event)) (word_at before.words cell) w) (kept-stored config past cell here)
 
   pub now-stored : (config : Config) (past : List Event) (cell : Cell) → config.count ≤ 8 → IsCell config.count cell →
-      word_at (now config past).store cell ≡ stored_word config past cell
-  unfolding now
+      word_at (device_now config past).store cell ≡ stored_word config past cell
+  unfolding device_now
   now-stored config past cell few here = kept-stored config past cell (IsCell-eight config.count cell few here)
 
   -- each cell accepts its word, and the one in the store
@@ -881,20 +883,20 @@ module _ (map : SettingsAreAMap) (told : CellsAreToldApart) where
       either false one two h k = k
 
   pub now-accepted : (config : Config) (past : List Event) (cell : Cell) → IsSound config → IsCell config.count cell →
-      cell_accepts cell (word_at (now config past).words cell) ≡ true
-  unfolding now
+      cell_accepts cell (word_at (device_now config past).words cell) ≡ true
+  unfolding device_now
   now-accepted config past cell sound here = (kept-accepted config past cell sound here).0
 
   pub now-stored_accepted : (config : Config) (past : List Event) (cell : Cell) → IsSound config → IsCell config.count cell →
-      cell_accepts cell (word_at (now config past).store cell) ≡ true
-  unfolding now
+      cell_accepts cell (word_at (device_now config past).store cell) ≡ true
+  unfolding device_now
   now-stored_accepted config past cell sound here = (kept-accepted config past cell sound here).1
 
 -- What a hearing leaves of the words of the cells, of the store and of PAGE.
 
 -- an event leaves what is kept after it
-pub kept-next : (held : Held) (event : Event) → kept_in (next held event) ≡ kept_after held event
-unfolding next after
+pub kept-next : (held : Held) (event : Event) → kept_in (device_next held event) ≡ kept_after held event
+unfolding device_next after_outcome
 kept-next held event = refl
 
 -- words, store and PAGE stay

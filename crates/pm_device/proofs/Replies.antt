@@ -31,12 +31,12 @@ use Rattle.pm_device.specs.{declared.converter.Heard.Heard, declared.fault.Devic
 use Rattle.pm_device.specs.Effect as effect
 use Rattle.pm_device.specs.Effect.{Event, Hearing, Heard as EffectHeard, Restarted, Reading, kept_in}
 use Rattle.pm_device.specs.Held.{Held, CmlFaults, value_for}
-use Rattle.pm_device.specs.History.{faults_by, after, next, now, without_requests, is_for_other, without_others}
+use Rattle.pm_device.specs.History.{faults_by, after_outcome, device_next, device_now, without_requests, is_for_other, without_others}
 use Rattle.pm_device.specs.Laws.{AnswersWith, PastsAreFollowed}
 use Rattle.pm_device.specs.Reply.{reply_to, reply_of, answer_bytes, plain_register, register_bytes, register_word, payload_for}
 use Rattle.pm_device.specs.Status.{CmlBit, Command, Data, Pec, OtherCommunication, fault_bit, cml_at, with_bit, act_clears_cml}
-use Rattle.pm_device.specs.Status.{is_output_cut, marked, status_vout, kept, vout_in, cml_in, sets_cml}
-use Rattle.pm_device.specs.Verdict.{verdict_of, act_in, act_verdict, answers_coefficients, fault_verdict, is_accepted, names_no_output}
+use Rattle.pm_device.specs.Status.{is_output_cut, bit_if_set, status_vout_of, kept, vout_in, cml_in, sets_cml}
+use Rattle.pm_device.specs.Verdict.{verdict_of, act_in, act_verdict, answers_coefficients, fault_verdict, is_act_accepted, names_no_output}
 use Rattle.pm_device.specs.Verdict.{output_in, read_verdict, selects_no_output, unless_faulty, write_verdict, written_word, payload_word}
 use Rattle.pm_device.specs.Verdict.{is_answered}
 use Rattle.pm_device.specs.declared.converter.Ending.TheVariants.{Stop, Restart}
@@ -57,8 +57,8 @@ noted faults fault OtherCommunication e = rw e refl
 
 -- a refusal changes that bit alone
 after-refused : (held : Held) (verdict : Verdict) (fault : DeviceFault) → reply_to held verdict ≡ Refused fault
-    → after held (effect.Heard verdict) ≡ record held { faults = with_bit held.faults (fault_bit fault) }
-unfolding after
+    → after_outcome held (effect.Heard verdict) ≡ record held { faults = with_bit held.faults (fault_bit fault) }
+unfolding after_outcome
 after-refused held Ignores fault e = cc
 after-refused held (Takes act) fault e = cc
 after-refused held (Answers request) fault e = cc
@@ -69,13 +69,13 @@ after-refused held (Refuses found) fault e =
 
 -- bytes that are refused set the bit of the refusal's kind, and nothing else changes
 pub next-refused : (held : Held) (bytes : List ℕ) (ending : Ending) (fault : DeviceFault) → reply_of held bytes ending ≡ Refused fault
-    → next held (Hearing bytes ending) ≡ record held { faults = with_bit held.faults (fault_bit fault) }
-unfolding reply_of next
+    → device_next held (Hearing bytes ending) ≡ record held { faults = with_bit held.faults (fault_bit fault) }
+unfolding reply_of device_next
 next-refused held bytes ending fault e = after-refused held (verdict_of held.config held.words held.page bytes ending) fault e
 
 -- silence changes nothing
-after-silent : (held : Held) (verdict : Verdict) → reply_to held verdict ≡ Silent → after held (effect.Heard verdict) ≡ held
-unfolding after
+after-silent : (held : Held) (verdict : Verdict) → reply_to held verdict ≡ Silent → after_outcome held (effect.Heard verdict) ≡ held
+unfolding after_outcome
 after-silent held Ignores e = refl
 after-silent held (Takes act) e = cc
 after-silent held (Answers request) e = cc
@@ -83,15 +83,15 @@ after-silent held (Refuses found) e = cc
 
 -- bytes that are met with silence change nothing
 pub next-silent : (held : Held) (bytes : List ℕ) (ending : Ending) → reply_of held bytes ending ≡ Silent
-    → next held (Hearing bytes ending) ≡ held
-unfolding reply_of next
+    → device_next held (Hearing bytes ending) ≡ held
+unfolding reply_of device_next
 next-silent held bytes ending e = after-silent held (verdict_of held.config held.words held.page bytes ending) e
 
 -- an answer changes nothing
 after-answered : (held : Held) (verdict : Verdict) (request : Message) → verdict ≡ Answers request
-    → after held (effect.Heard verdict) ≡ held
-unfolding after
-after-answered held verdict request e = ap (λ v. after held (effect.Heard v)) e
+    → after_outcome held (effect.Heard verdict) ≡ held
+unfolding after_outcome
+after-answered held verdict request e = ap (λ v. after_outcome held (effect.Heard v)) e
 
 -- a read changes nothing
 read-answered : (held : Held) (verdict : Verdict) (answer : Heard) → reply_to held verdict ≡ answer → (answer ≡ Silent → ⊥)
@@ -104,8 +104,8 @@ read-answered held (Answers request) answer e silent taken refused = (request, r
 -- what is neither silence, taken nor refused changes nothing
 pub next-answered : (held : Held) (bytes : List ℕ) (ending : Ending) → (reply_of held bytes ending ≡ Silent → ⊥)
     → (reply_of held bytes ending ≡ Taken → ⊥) → ((fault : DeviceFault) → reply_of held bytes ending ≡ Refused fault → ⊥)
-    → next held (Hearing bytes ending) ≡ held
-unfolding reply_of next
+    → device_next held (Hearing bytes ending) ≡ held
+unfolding reply_of device_next
 next-answered held bytes ending silent taken refused =
     let verdict = verdict_of held.config held.words held.page bytes ending in
     let read = read-answered held verdict (reply_to held verdict) refl silent taken refused in
@@ -118,8 +118,8 @@ unset false before e = e
 
 -- a bit that is set after a taken write was set before it
 after-taken : (held : Held) (verdict : Verdict) (bit : CmlBit) → reply_to held verdict ≡ Taken
-    → cml_at (after held (effect.Heard verdict)).faults bit ≡ true → cml_at held.faults bit ≡ true
-unfolding after
+    → cml_at (after_outcome held (effect.Heard verdict)).faults bit ≡ true → cml_at held.faults bit ≡ true
+unfolding after_outcome
 after-taken held Ignores bit e h = cc
 after-taken held (Answers request) bit e h = cc
 after-taken held (Refuses found) bit e h = cc
@@ -130,19 +130,20 @@ after-taken held (Takes act) OtherCommunication e h = unset (act_clears_cml Othe
 
 -- a bit that is set after bytes that are a taken write was set before them
 pub next-taken : (held : Held) (bytes : List ℕ) (ending : Ending) (bit : CmlBit) → reply_of held bytes ending ≡ Taken
-    → cml_at (next held (Hearing bytes ending)).faults bit ≡ true → cml_at held.faults bit ≡ true
-unfolding reply_of next
+    → cml_at (device_next held (Hearing bytes ending)).faults bit ≡ true → cml_at held.faults bit ≡ true
+unfolding reply_of device_next
 next-taken held bytes ending bit e h = after-taken held (verdict_of held.config held.words held.page bytes ending) bit e h
 
 -- the status registers look back
 pub vout-looked_up : (config : Config) (past : List Event) (output : ℕ) → output < 8
-    → status_vout (now config past) output ≡ marked 0x08 (vout_in config past output)
-unfolding now
-vout-looked_up config past output there = ap (λ b. marked 0x08 b) (cut_at-each_output (vout_in config past) output there)
+    → status_vout_of (device_now config past) output ≡ bit_if_set 0x08 (vout_in config past output)
+unfolding device_now
+vout-looked_up config past output there = ap (λ b. bit_if_set 0x08 b) (cut_at-each_output (vout_in config past) output there)
 
 -- the bits of STATUS_CML are those of the events
-pub cml-looked_up : (config : Config) (past : List Event) (bit : CmlBit) → cml_at (now config past).faults bit ≡ cml_in config past bit
-unfolding now
+pub cml-looked_up : (config : Config) (past : List Event) (bit : CmlBit) → cml_at (device_now config past).faults bit
+    ≡ cml_in config past bit
+unfolding device_now
 cml-looked_up config past Command = refl
 cml-looked_up config past Data = refl
 cml-looked_up config past Pec = refl
@@ -157,10 +158,10 @@ cut-now config words output there cut = ap (λ b. b && is_cut (value_for config 
 
 -- STATUS_VOUT shows that an output is cut
 pub now-shows : (config : Config) (past : List Event) (output : ℕ) → config.count ≤ 8 → output < config.count
-    → is_cut (value_for config output) (now config past).words output ≡ true → status_vout (now config past) output ≡ 0x08
-unfolding now
+    → is_cut (value_for config output) (device_now config past).words output ≡ true → status_vout_of (device_now config past) output ≡ 0x08
+unfolding device_now
 now-shows config past output few there cut =
-    ap (λ b. marked 0x08 b) (cut_at-each_output (vout_in config past) output (omega (arith, few, there))
+    ap (λ b. bit_if_set 0x08 b) (cut_at-each_output (vout_in config past) output (omega (arith, few, there))
     ∙ vout-shows config past output (cut-now config (kept config past).words output there cut))
 
 -- Which replies come after which endings, and for which codes.
@@ -203,7 +204,7 @@ stop-not_answer held bytes items e = go (write_fault held.config.addr bytes) e w
   acts message None h = cc
   acts message (Some act) h =
       act-not_answer held (names_no_output held.config.count message || selects_no_output held.config.count act)
-      (is_allowed (word_at held.words Protect) (message_code message)) (is_accepted act) act items h
+      (is_allowed (word_at held.words Protect) (message_code message)) (is_act_accepted act) act items h
 
   go : (fault : Option FrameFault) →
       reply_to held (unless_faulty fault (write_verdict held.config held.words held.page (message_in bytes)))
@@ -437,8 +438,8 @@ request-no_act config words page bytes = go (request_fault config.addr bytes) wh
 
 -- A verdict without an act changes nothing but the latched bits of STATUS_CML.
 after-alone : (held : Held) (verdict : Verdict) → IsNoAct verdict
-    → after held (EffectHeard verdict) ≡ record held { faults = (after held (EffectHeard verdict)).faults }
-unfolding after IsNoAct
+    → after_outcome held (EffectHeard verdict) ≡ record held { faults = (after_outcome held (EffectHeard verdict)).faults }
+unfolding after_outcome IsNoAct
 after-alone held (Takes act) none = absurd none
 after-alone held Ignores none = refl
 after-alone held (Refuses fault) none = refl
@@ -446,19 +447,19 @@ after-alone held (Answers request) none = refl
 
 -- A request changes nothing but the latched bits of STATUS_CML.
 pub request-alone : (held : Held) (bytes : List ℕ)
-    → next held (Hearing bytes Restart) ≡ record held { faults = (next held (Hearing bytes Restart)).faults }
-unfolding next
+    → device_next held (Hearing bytes Restart) ≡ record held { faults = (device_next held (Hearing bytes Restart)).faults }
+unfolding device_next
 request-alone held bytes =
     after-alone held (verdict_of held.config held.words held.page bytes Restart) (request-no_act held.config held.words held.page bytes)
 
 -- What a restart keeps stays the same after a request.
-pub request-kept : (held : Held) (bytes : List ℕ) → kept_in (next held (Hearing bytes Restart)) ≡ kept_in held
+pub request-kept : (held : Held) (bytes : List ℕ) → kept_in (device_next held (Hearing bytes Restart)) ≡ kept_in held
 request-kept held bytes = ap kept_in (request-alone held bytes)
 
 -- A verdict without an act clears no latched bit of STATUS_CML.
 after-rises : (held : Held) (verdict : Verdict) (bit : CmlBit) → IsNoAct verdict → cml_at held.faults bit ≡ true
-    → cml_at (after held (EffectHeard verdict)).faults bit ≡ true
-unfolding after IsNoAct
+    → cml_at (after_outcome held (EffectHeard verdict)).faults bit ≡ true
+unfolding after_outcome IsNoAct
 after-rises held (Takes act) bit none set = absurd none
 after-rises held Ignores Command none set = set
 after-rises held Ignores Data none set = set
@@ -475,42 +476,44 @@ after-rises held (Answers request) OtherCommunication none set = set
 
 -- A request clears no latched bit of STATUS_CML.
 pub request-rises : (held : Held) (bytes : List ℕ) (bit : CmlBit) → cml_at held.faults bit ≡ true
-    → cml_at (next held (Hearing bytes Restart)).faults bit ≡ true
-unfolding next
+    → cml_at (device_next held (Hearing bytes Restart)).faults bit ≡ true
+unfolding device_next
 request-rises held bytes bit set =
     after-rises held (verdict_of held.config held.words held.page bytes Restart) bit
     (request-no_act held.config held.words held.page bytes) set
 
 -- what an event makes of the rest doesn't depend on the latched bits of STATUS_CML
 next-beside : (held : Held) (faults : CmlFaults) (event : Event)
-    → next (record held { faults = faults }) event
-    ≡ record (next held event) { faults = (next (record held { faults = faults }) event).faults }
-unfolding next after
+    → device_next (record held { faults = faults }) event
+    ≡ record (device_next held event) { faults = (device_next (record held { faults = faults }) event).faults }
+unfolding device_next after_outcome
 next-beside held faults event = refl
 
 -- Two pasts that came to the same but for the latched bits of STATUS_CML do so after one event more.
-one_more : (config : Config) (past other : List Event) (event : Event) → now config (event ∷ past) ≡ next (now config past) event
-    → now config (event ∷ other) ≡ next (now config other) event
-    → now config past ≡ record (now config other) { faults = (now config past).faults }
-    → now config (event ∷ past) ≡ record (now config (event ∷ other)) { faults = (now config (event ∷ past)).faults }
+one_more : (config : Config) (past other : List Event) (event : Event) → device_now config (event ∷ past)
+    ≡ device_next (device_now config past) event
+    → device_now config (event ∷ other) ≡ device_next (device_now config other) event
+    → device_now config past ≡ record (device_now config other) { faults = (device_now config past).faults }
+    → device_now config (event ∷ past) ≡ record (device_now config (event ∷ other)) { faults = (device_now config (event ∷ past)).faults }
 one_more config past other event first second same =
-    let beside : next (now config past) event ≡ record (next (now config other) event) { faults = (next (now config past) event).faults } =
-    ap (λ h. next h event) same ∙ next-beside (now config other) (now config past).faults event
-    ∙ ap (λ h. record (next (now config other) event) { faults = (next h event).faults }) (sym same) in
-    first ∙ beside ∙ ap (λ (h : Held). record h { faults = (next (now config past) event).faults }) (sym second)
-    ∙ ap (λ (h : Held). record (now config (event ∷ other)) { faults = h.faults }) (sym first)
+    let beside : device_next (device_now config past) event
+    ≡ record (device_next (device_now config other) event) { faults = (device_next (device_now config past) event).faults } =
+    ap (λ h. device_next h event) same ∙ next-beside (device_now config other) (device_now config past).faults event
+    ∙ ap (λ h. record (device_next (device_now config other) event) { faults = (device_next h event).faults }) (sym same) in
+    first ∙ beside ∙ ap (λ (h : Held). record h { faults = (device_next (device_now config past) event).faults }) (sym second)
+    ∙ ap (λ (h : Held). record (device_now config (event ∷ other)) { faults = h.faults }) (sym first)
 
 -- What is held after a past is what is held after the past without requests, but for those bits.
 pub past-without_requests : PastsAreFollowed → (config : Config) (past : List Event) → 1 ≤ config.count → config.count ≤ 8
-    → now config past ≡ record (now config (without_requests past)) { faults = (now config past).faults }
+    → device_now config past ≡ record (device_now config (without_requests past)) { faults = (device_now config past).faults }
 past-without_requests followed config [] some few = refl
 past-without_requests followed config (Hearing bytes Restart ∷ past) some few =
     let more = followed.more config past (Hearing bytes Restart) some few in
     let before = past-without_requests followed config past some few in
-    let alone = request-alone (now config past) bytes in
+    let alone = request-alone (device_now config past) bytes in
     more ∙ alone
-    ∙ ap (λ (h : Held). record h { faults = (next (now config past) (Hearing bytes Restart)).faults }) before
-    ∙ ap (λ (h : Held). record (now config (without_requests past)) { faults = h.faults }) (sym more)
+    ∙ ap (λ (h : Held). record h { faults = (device_next (device_now config past) (Hearing bytes Restart)).faults }) before
+    ∙ ap (λ (h : Held). record (device_now config (without_requests past)) { faults = h.faults }) (sym more)
 past-without_requests followed config (Hearing bytes Stop ∷ past) some few =
     one_more config past (without_requests past) (Hearing bytes Stop) (followed.more config past _ some few)
     (followed.more config (without_requests past) _ some few) (past-without_requests followed config past some few)
@@ -549,7 +552,7 @@ other-silent held bytes Restart other = rw (other-request_fault held.config.addr
 
 -- Bytes for another device change nothing.
 pub other-unchanged : (held : Held) (bytes : List ℕ) (ending : Ending) → is_for_other held.config.addr bytes ≡ true
-    → next held (Hearing bytes ending) ≡ held
+    → device_next held (Hearing bytes ending) ≡ held
 other-unchanged held bytes ending other = next-silent held bytes ending (other-silent held bytes ending other)
 
 -- Bytes that begin with another address, with either direction, are for another device.
@@ -565,32 +568,33 @@ pub read_bit-other : (addr : ℕ) (rest : List ℕ) → is_for_other addr (read_
 read_bit-other addr rest = ap not (ne_eqb (read_address addr) (write_address addr) (λ e. absurd (omega arith)))
 
 -- the configuration stays what it was
-config-now : (config : Config) (past : List Event) → (now config past).config.addr ≡ config.addr
-unfolding now
+config-now : (config : Config) (past : List Event) → (device_now config past).config.addr ≡ config.addr
+unfolding device_now
 config-now config past = refl
 
 -- Two pasts that came to the same do so after one event more.
-others_one_more : (config : Config) (past other : List Event) (event : Event) → now config (event ∷ past) ≡ next (now config past) event
-    → now config (event ∷ other) ≡ next (now config other) event → now config past ≡ now config other
-    → now config (event ∷ past) ≡ now config (event ∷ other)
-others_one_more config past other event first second same = first ∙ ap (λ h. next h event) same ∙ sym second
+others_one_more : (config : Config) (past other : List Event) (event : Event) → device_now config (event ∷ past)
+    ≡ device_next (device_now config past) event
+    → device_now config (event ∷ other) ≡ device_next (device_now config other) event → device_now config past ≡ device_now config other
+    → device_now config (event ∷ past) ≡ device_now config (event ∷ other)
+others_one_more config past other event first second same = first ∙ ap (λ h. device_next h event) same ∙ sym second
 
 -- What is held after a past is what is held after the past without the bytes for others.
 pub past-without_others : PastsAreFollowed → (config : Config) (past : List Event) → 1 ≤ config.count → config.count ≤ 8
-    → now config past ≡ now config (without_others config.addr past)
+    → device_now config past ≡ device_now config (without_others config.addr past)
 past-without_others followed config [] some few = refl
 past-without_others followed config (Hearing bytes ending ∷ past) some few =
     go (is_for_other config.addr bytes) refl (past-without_others followed config past some few)
   where
-    addr_is : (now config past).config.addr ≡ config.addr
+    addr_is : (device_now config past).config.addr ≡ config.addr
     addr_is = config-now config past
 
-    skipped : is_for_other config.addr bytes ≡ true → next (now config past) (Hearing bytes ending) ≡ now config past
-    skipped other = other-unchanged (now config past) bytes ending (ap (λ a. is_for_other a bytes) addr_is ∙ other)
+    skipped : is_for_other config.addr bytes ≡ true → device_next (device_now config past) (Hearing bytes ending) ≡ device_now config past
+    skipped other = other-unchanged (device_now config past) bytes ending (ap (λ a. is_for_other a bytes) addr_is ∙ other)
 
-    go : (b : Bool) → is_for_other config.addr bytes ≡ b → now config past ≡ now config (without_others config.addr past)
-        → now config (Hearing bytes ending ∷ past)
-        ≡ now config (cond b (without_others config.addr past) (Hearing bytes ending ∷ without_others config.addr past))
+    go : (b : Bool) → is_for_other config.addr bytes ≡ b → device_now config past ≡ device_now config (without_others config.addr past)
+        → device_now config (Hearing bytes ending ∷ past)
+        ≡ device_now config (cond b (without_others config.addr past) (Hearing bytes ending ∷ without_others config.addr past))
     go true other before =
         followed.more config past (Hearing bytes ending) some few ∙ skipped other ∙ before
     go false own before =

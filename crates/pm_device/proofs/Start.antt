@@ -16,11 +16,12 @@ use Rattle.pm_table.specs.Cell.{is_operation, register_accepts, register_number,
 use Rattle.pm_table.specs.RuleLemmas.{map-none, or-none, rule-none}
 use Rattle.pm_table.specs.declared.cell.Cell.TheVariants.{Protect, Out}
 use Rattle.pm_table.specs.declared.vout_mode.VoutMode.TheVariants.{Linear, Direct}
-use Rattle.pm_model.specs.Settings.{Settings, settings_in, word_at, Words, words_of}
+use Rattle.pm_model.specs.Settings.{Settings, settings_in, word_at, Words, words_given_by}
 use Rattle.pm_device.specs.{declared.config.Config.Config, declared.config_fault.ConfigFault.ConfigFault}
 use Rattle.pm_device.specs.{declared.image.PartImage.PartImage, declared.output_start.OutputStart.OutputStart}
 use Rattle.pm_device.specs.Held.{CmlFaults, Held, Measured, mode_for, shape_made, shape_for}
-use Rattle.pm_device.specs.Image.{config_held, device_of, held, is_current, is_set, latches_held, may_hold, readings_held}
+use Rattle.pm_device.specs.Image.{config_held, device_of, held_in_image, is_current_part_image, is_set, latches_held, converter_may_hold}
+use Rattle.pm_device.specs.Image.{readings_held}
 use Rattle.pm_device.specs.Start.{config_fault, register_start, start_row, start_word, start_words, no_start, outputs, is_direct}
 use Rattle.pm_device.specs.Start.{has_direct, bad_register, bad_registers, bad_start, bad_mode, bad_coefficients, IsSound}
 use Rattle.pm_device.specs.declared.config_fault.ConfigFault.TheVariants.{OutputCount, BadStart, Address, BadMode, BadCoefficients}
@@ -37,17 +38,17 @@ right-fails false b e = refl
 right-fails true b e = e
 
 -- a failed test is of no converter
-failed : (image : PartImage) → (is_current image && may_hold (held image)) ≡ false → device_of image ≡ None
+failed : (image : PartImage) → (is_current_part_image image && converter_may_hold (held_in_image image)) ≡ false → device_of image ≡ None
 unfolding device_of
-failed image e = ap (λ (b : Bool). cond b (Some (held image)) None) e
+failed image e = ap (λ (b : Bool). cond b (Some (held_in_image image)) None) e
 
 -- another layout
-pub none-current : (image : PartImage) → is_current image ≡ false → device_of image ≡ None
-none-current image e = failed image (left-fails (is_current image) (may_hold (held image)) e)
+pub none-current : (image : PartImage) → is_current_part_image image ≡ false → device_of image ≡ None
+none-current image e = failed image (left-fails (is_current_part_image image) (converter_may_hold (held_in_image image)) e)
 
 -- something that no converter may hold
-not-held : (image : PartImage) → may_hold (held image) ≡ false → device_of image ≡ None
-not-held image e = failed image (right-fails (is_current image) (may_hold (held image)) e)
+not-held : (image : PartImage) → converter_may_hold (held_in_image image) ≡ false → device_of image ≡ None
+not-held image e = failed image (right-fails (is_current_part_image image) (converter_may_hold (held_in_image image)) e)
 
 -- a configuration that is refused
 pub none-config : (image : PartImage) → is_none (config_fault (config_held image.config)) ≡ false →
@@ -84,21 +85,21 @@ pub record MayHold (h : Held) : Type 0 where
   pub page : h.page < h.config.count
 
 -- what a converter may hold, by a fact of each of its parts, passes the test of that
-may-hold : (h : Held) → MayHold h → may_hold h ≡ true
+may-hold : (h : Held) → MayHold h → converter_may_hold h ≡ true
 may-hold h may = and_from _ _ (ap (λ (f : Option ConfigFault). is_none f) may.config)
     (and_from _ _ (and_from _ _ (ap (λ (s : Option Settings). is_some s) may.words.1)
     (ap (λ (s : Option Settings). is_some s) may.store.1))
     (and_from _ _ (eq-eqb _ _ may.protect) (lt-ltb h.page h.config.count may.page)))
 
 -- an image of this layout is that of the converter
-pub some-held : (image : PartImage) → is_current image ≡ true → MayHold (held image) →
-    device_of image ≡ Some (held image)
+pub some-held : (image : PartImage) → is_current_part_image image ≡ true → MayHold (held_in_image image) →
+    device_of image ≡ Some (held_in_image image)
 unfolding device_of
 some-held image current may =
-    ap (λ (b : Bool). cond b (Some (held image)) None) (and_from _ _ current (may-hold (held image) may))
+    ap (λ (b : Bool). cond b (Some (held_in_image image)) None) (and_from _ _ current (may-hold (held_in_image image) may))
 
 -- an image of these numbers is that of a converter that may hold them
-pub read-back : (image : PartImage) (h : Held) → is_current image ≡ true → held image ≡ h → MayHold h →
+pub read-back : (image : PartImage) (h : Held) → is_current_part_image image ≡ true → held_in_image image ≡ h → MayHold h →
     device_of image ≡ Some h
 read-back image h current same may =
     some-held image current (subst (λ (x : Held). MayHold x) (sym same) may) ∙ ap (λ (x : Held). Some x) same
@@ -106,9 +107,9 @@ read-back image h current same may =
 -- what an image holds is this where each part is
 pub same-held : (image : PartImage) (h : Held) → config_held image.config ≡ h.config → image.words ≡ h.words →
     image.store ≡ h.store → image.page ≡ h.page → readings_held image.readings ≡ h.readings →
-    map is_set image.cut ≡ h.cut → latches_held image.latches ≡ h.faults → held image ≡ h
+    map is_set image.cut ≡ h.cut → latches_held image.latches ≡ h.faults → held_in_image image ≡ h
 same-held image h config words store page readings cut faults =
-    ap (λ (x : Config). record (held image) { config = x }) config
+    ap (λ (x : Config). record (held_in_image image) { config = x }) config
     ∙ (ap₂ (λ (x y : List ℕ). record h {
       words = x;
       store = y;
@@ -148,7 +149,7 @@ row-start config row output register is =
 
 -- words that have each cell's start word are the start words
 pub all-start : (config : Config) (words : Words)
-    → ((word : Cell → ℕ) → ((cell : Cell) → IsCell 8 cell → word_at words cell ≡ word cell) → words ≡ words_of word)
+    → ((word : Cell → ℕ) → ((cell : Cell) → IsCell 8 cell → word_at words cell ≡ word cell) → words ≡ words_given_by word)
     → ((output : ℕ) (register : Reg) → output < 8 → word_at words (Out output register) ≡ start_word config (Out output register))
     → word_at words Protect ≡ config.protect
     → words ≡ start_words config

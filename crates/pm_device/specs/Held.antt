@@ -50,14 +50,14 @@ is_reading count output code =
     is_device_reading code || is_output_reading code && nat_lt output count
 
 -- the words of a code of an output, by its place
-abbrev pub words_at : Measured → ℕ → List ℕ
-words_at readings place = slice_index_or readings.outputs place []
+abbrev pub reading_words_at : Measured → ℕ → List ℕ
+reading_words_at readings place = slice_index_or readings.outputs place []
 
 -- the word that a READ code answers at an output, 0 for any other code
 abbrev pub reading_at : Measured → ℕ → ℕ → ℕ
 reading_at readings output code =
     option_map_or (λ place. slice_index readings.device place) (place_among device_readings code)
-    (option_map_or (λ place. slice_index (words_at readings place) output) (place_among output_readings code) 0)
+    (option_map_or (λ place. slice_index (reading_words_at readings place) output) (place_among output_readings code) 0)
 
 -- the readings with another word for one of them
 abbrev pub with_reading : Measured → ℕ → ℕ → ℕ → Measured
@@ -65,7 +65,7 @@ with_reading readings output code word =
     option_map_or (λ place. record readings { device = slice_set readings.device place word })
     (place_among device_readings code)
     (option_map_or (λ place. record readings
-    { outputs = slice_set readings.outputs place (slice_set (words_at readings place) output word) })
+    { outputs = slice_set readings.outputs place (slice_set (reading_words_at readings place) output word) })
     (place_among output_readings code) readings)
 
 -- the bits of STATUS_CML (PMBus 1.3 Part II) that this converter can set: an unsupported command,

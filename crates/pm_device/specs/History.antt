@@ -21,7 +21,8 @@ use Rattle.pm_device.specs.Start.{start_word}
 use Rattle.pm_device.specs.Verdict.{output_in, written_word}
 use Rattle.pm_device.specs.Effect.{Event, Hearing, Restarted, Reading, Outcome, Heard, Restarts, Measures, outcome_in, outcome_of, kept_by}
 use Rattle.pm_device.specs.Effect.{kept_in, started}
-use Rattle.pm_device.specs.Status.{CmlBit, Command, Data, Pec, OtherCommunication, has_bit, kept, is_output_cut, cut_at, vout_in, cml_in}
+use Rattle.pm_device.specs.Status.{CmlBit, Command, Data, Pec, OtherCommunication, has_bit_set, kept, is_output_cut, cut_at, vout_in}
+use Rattle.pm_device.specs.Status.{cml_in}
 use Rattle.pm_device.specs.Status.{clears, act_clears_cml, sets_cml}
 use Rattle.pm_device.specs.Reply.{reply_of}
 
@@ -43,8 +44,8 @@ readings_in config (event ∷ past) =
 
 -- what a converter holds after its past: words, store, page and readings one event after another, the
 -- status bits by looking back
-unfoldable pub now : Config → List Event → Held
-now config past = record {
+unfoldable pub device_now : Config → List Event → Held
+device_now config past = record {
   config = config;
   words = (kept config past).words;
   store = (kept config past).store;
@@ -84,7 +85,7 @@ abbrev pub cut_by_act : Config → Words → List Bool → Act → List Bool
 cut_by_act config words cut (Put (Out output register) word) = latched config words cut output
 cut_by_act config words cut (ClearFaults output) = cleared config words cut output
 cut_by_act config words cut (ClearVout output byte) =
-    if has_bit byte 0x08 then cleared config words cut output else cut
+    if has_bit_set byte 0x08 then cleared config words cut output else cut
 cut_by_act config words cut Restore =
     each_output (λ output. cut_at cut output || is_output_cut config words output)
 cut_by_act config words cut _ = cut
@@ -96,21 +97,21 @@ cut_by config words cut Restarts = each_output (is_output_cut config words)
 cut_by config words cut _ = cut
 
 -- a bit of STATUS_CML after what an event came to
-abbrev pub fault_by : Outcome → CmlBit → Bool → Bool
-fault_by outcome bit before =
+abbrev pub cml_bit_after : Outcome → CmlBit → Bool → Bool
+cml_bit_after outcome bit before =
     sets_cml bit outcome || (if clears (act_clears_cml bit) outcome then false else before)
 
 abbrev pub faults_by : CmlFaults → Outcome → CmlFaults
 faults_by faults outcome = record {
-  command = fault_by outcome Command faults.command;
-  «data» = fault_by outcome Data faults.data;
-  pec = fault_by outcome Pec faults.pec;
-  other_communication = fault_by outcome OtherCommunication faults.other_communication;
+  command = cml_bit_after outcome Command faults.command;
+  «data» = cml_bit_after outcome Data faults.data;
+  pec = cml_bit_after outcome Pec faults.pec;
+  other_communication = cml_bit_after outcome OtherCommunication faults.other_communication;
 }
 
 -- what a converter holds after what an event came to
-unfoldable pub after : Held → Outcome → Held
-after held outcome =
+unfoldable pub after_outcome : Held → Outcome → Held
+after_outcome held outcome =
     let kept = kept_by (kept_in held) outcome in
     record {
       config = held.config;
@@ -123,8 +124,8 @@ after held outcome =
     }
 
 -- what one event makes of what a converter holds
-unfoldable pub next : Held → Event → Held
-next held event = after held (outcome_in held event)
+unfoldable pub device_next : Held → Event → Held
+device_next held event = after_outcome held (outcome_in held event)
 
 -- what was heard is bytes, and what was measured are words
 abbrev pub AreHeard : List Event → Type 0
@@ -184,8 +185,8 @@ pub record WasEverCarried (config : Config) (past : List Event) (cell : Cell) (w
   pub message : Message
   pub heard : past ≡ later ++ Hearing bytes Stop ∷ before
   pub carries : IsWrite config.addr message bytes
-  pub taken : reply_of (now config before) bytes Stop ≡ Taken
-  pub names : cell_at (message_code message) (output_in (now config before).page message) ≡ Some cell
+  pub taken : reply_of (device_now config before) bytes Stop ≡ Taken
+  pub names : cell_at (message_code message) (output_in (device_now config before).page message) ≡ Some cell
   pub number : written_word message ≡ word
 
 -- such a frame was taken since the cell last got its word in the store

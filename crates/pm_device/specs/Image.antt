@@ -11,7 +11,7 @@ use Rattle.pm_device.specs.declared.image.LatchesImage.{LatchesImage}
 use Rattle.pm_device.specs.declared.image.OutputImage.{OutputImage}
 use Rattle.pm_device.specs.declared.image.ReadingsImage.{ReadingsImage}
 use Rattle.pm_device.specs.Held.{CmlFaults, Held, Measured}
-use Rattle.pm_device.specs.Start.{config_fault, start_of}
+use Rattle.pm_device.specs.Start.{config_fault, start_with_words}
 
 -- a flag is set where it is 1
 abbrev pub is_set : ℕ → Bool
@@ -19,7 +19,7 @@ is_set flag = flag == 1
 
 -- how an output starts
 abbrev pub start_held : OutputImage → OutputStart
-start_held output = start_of output.mode (λ register. slice_index output.words (register_number register))
+start_held output = start_with_words output.mode (λ register. slice_index output.words (register_number register))
 
 -- what a converter is made from
 abbrev pub config_held : ConfigImage → Config
@@ -43,8 +43,8 @@ latches_held image = record {
 }
 
 -- what a converter of these numbers holds
-abbrev pub held : PartImage → Held
-held image = record {
+abbrev pub held_in_image : PartImage → Held
+held_in_image image = record {
   config = config_held image.config;
   words = image.words;
   store = image.store;
@@ -55,23 +55,23 @@ held image = record {
 }
 
 -- the bytes 'CT' and the number of this layout, which an image of another layout lacks
-abbrev pub image_mark : ℕ
-image_mark = 0x5443
+abbrev pub part_image_mark : ℕ
+part_image_mark = 0x5443
 
-abbrev pub image_version : ℕ
-image_version = 1
+abbrev pub part_image_version : ℕ
+part_image_version = 1
 
 -- the image has this layout
-abbrev pub is_current : PartImage → Bool
-is_current image = image.mark == image_mark && image.version == image_version
+abbrev pub is_current_part_image : PartImage → Bool
+is_current_part_image image = image.mark == part_image_mark && image.version == part_image_version
 
 -- a converter may hold this: its configuration isn't refused, its cells and those of its store are settings of as
 -- many outputs, the store has WRITE_PROTECT's start word, and PAGE names an output that is there
-abbrev pub may_hold : Held → Bool
-may_hold h = is_none (config_fault h.config)
+abbrev pub converter_may_hold : Held → Bool
+converter_may_hold h = is_none (config_fault h.config)
     && ((is_some (settings_in h.config.count h.words) && is_some (settings_in h.config.count h.store))
     && (word_at h.store Protect == h.config.protect && nat_lt h.page h.config.count))
 
 -- the converter whose image it is
 unfoldable pub device_of : PartImage → Option Held
-device_of image = if is_current image && may_hold (held image) then Some (held image) else None
+device_of image = if is_current_part_image image && converter_may_hold (held_in_image image) then Some (held_in_image image) else None

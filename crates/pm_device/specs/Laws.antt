@@ -26,10 +26,10 @@ use Rattle.pm_device.specs.Held.{Held, is_device_reading, is_output_reading, mod
 use Rattle.pm_device.specs.Start.{IsSound, config_fault, has_direct}
 use Rattle.pm_device.specs.Verdict.{is_answered, names_no_output, output_in, payload_word, verdict_of, write_verdict, written_word}
 use Rattle.pm_device.specs.Effect.{Event, Hearing, kept_in, kept_after}
-use Rattle.pm_device.specs.Status.{CmlBit, fault_bit, with_bit, cml_at, cml_in, vout_in, marked, status_byte, status_cml}
-use Rattle.pm_device.specs.Status.{status_vout, status_word}
+use Rattle.pm_device.specs.Status.{CmlBit, fault_bit, with_bit, cml_at, cml_in, vout_in, bit_if_set, status_byte_of, status_cml_of}
+use Rattle.pm_device.specs.Status.{status_vout_of, status_word_of}
 use Rattle.pm_device.specs.Reply.{payload_for, register_bytes, register_word, reply_of}
-use Rattle.pm_device.specs.History.{AreHeard, IsEverHad, WasCarried, loaded_word, stored_word, next, now, start_of}
+use Rattle.pm_device.specs.History.{AreHeard, IsEverHad, WasCarried, loaded_word, stored_word, device_next, device_now, start_of}
 use Rattle.pm_device.specs.History.{is_for_other, without_others, without_requests}
 
 -- What a converter with 1 to 8 outputs holds after any past is what one event after another makes of
@@ -37,22 +37,22 @@ use Rattle.pm_device.specs.History.{is_for_other, without_others, without_reques
 -- back (`vout`, `cml`). A cause that holds now shows at once (`shows`). PAGE always names an output
 -- that exists (`page`), and there is always a word for each cell, in the store too (`words`, `store`).
 pub record PastsAreFollowed : Type 0 where
-  pub none : (config : Config) → now config [] ≡ start_of config
+  pub none : (config : Config) → device_now config [] ≡ start_of config
   pub more : (config : Config) (past : List Event) (event : Event) →
       1 ≤ config.count → config.count ≤ 8 →
-      now config (event ∷ past) ≡ next (now config past) event
+      device_now config (event ∷ past) ≡ device_next (device_now config past) event
   pub vout : (config : Config) (past : List Event) (output : ℕ) → output < 8 →
-      status_vout (now config past) output ≡ marked 0x08 (vout_in config past output)
+      status_vout_of (device_now config past) output ≡ bit_if_set 0x08 (vout_in config past output)
   pub cml : (config : Config) (past : List Event) (bit : CmlBit) →
-      cml_at (now config past).faults bit ≡ cml_in config past bit
+      cml_at (device_now config past).faults bit ≡ cml_in config past bit
   pub shows : (config : Config) (past : List Event) (output : ℕ) →
       config.count ≤ 8 → output < config.count →
-      is_cut (value_for config output) (now config past).words output ≡ true →
-      status_vout (now config past) output ≡ 0x08
+      is_cut (value_for config output) (device_now config past).words output ≡ true →
+      status_vout_of (device_now config past) output ≡ 0x08
   pub page : (config : Config) (past : List Event) →
-      1 ≤ config.count → (now config past).page < config.count
-  pub words : (config : Config) (past : List Event) → AreWords (now config past).words
-  pub store : (config : Config) (past : List Event) → AreWords (now config past).store
+      1 ≤ config.count → (device_now config past).page < config.count
+  pub words : (config : Config) (past : List Event) → AreWords (device_now config past).words
+  pub store : (config : Config) (past : List Event) → AreWords (device_now config past).store
 
 -- a configuration is sound exactly where it has no fault, so a converter is made of each sound one
 abbrev pub SoundConfigurationsHaveNoFault : Type 0
@@ -66,23 +66,23 @@ SoundConfigurationsHaveNoFault = (config : Config) → IsSound config ↔ (confi
 pub record WordsHaveAnOrigin : Type 0 where
   pub origin : (config : Config) (past : List Event) (cell : Cell) →
       1 ≤ config.count → config.count ≤ 8 → AreHeard past → IsCell config.count cell →
-      (word_at (now config past).words cell ≡ loaded_word config past cell)
-      ⊎ WasCarried config past cell (word_at (now config past).words cell)
+      (word_at (device_now config past).words cell ≡ loaded_word config past cell)
+      ⊎ WasCarried config past cell (word_at (device_now config past).words cell)
   pub stored : (config : Config) (past : List Event) (cell : Cell) →
       1 ≤ config.count → config.count ≤ 8 → IsCell config.count cell →
-      word_at (now config past).store cell ≡ stored_word config past cell
+      word_at (device_now config past).store cell ≡ stored_word config past cell
   pub ever : (config : Config) (past : List Event) (cell : Cell) →
       1 ≤ config.count → config.count ≤ 8 → AreHeard past → IsCell config.count cell →
-      IsEverHad config past cell (word_at (now config past).words cell)
+      IsEverHad config past cell (word_at (device_now config past).words cell)
   pub stored_ever : (config : Config) (past : List Event) (cell : Cell) →
       1 ≤ config.count → config.count ≤ 8 → AreHeard past → IsCell config.count cell →
-      IsEverHad config past cell (word_at (now config past).store cell)
+      IsEverHad config past cell (word_at (device_now config past).store cell)
   pub accepted : (config : Config) (past : List Event) (cell : Cell) →
       IsSound config → IsCell config.count cell →
-      cell_accepts cell (word_at (now config past).words cell) ≡ true
+      cell_accepts cell (word_at (device_now config past).words cell) ≡ true
   pub stored_accepted : (config : Config) (past : List Event) (cell : Cell) →
       IsSound config → IsCell config.count cell →
-      cell_accepts cell (word_at (now config past).store cell) ≡ true
+      cell_accepts cell (word_at (device_now config past).store cell) ≡ true
 
 -- A refusal sets the one bit of STATUS_CML of its kind, and changes nothing else (`refused`).
 -- Silence and a read that is answered change nothing (`silent`, `answered`). A write that is taken
@@ -90,17 +90,17 @@ pub record WordsHaveAnOrigin : Type 0 where
 pub record RefusalsSetOneBit : Type 0 where
   pub refused : (held : Held) (bytes : List ℕ) (ending : Ending) (fault : DeviceFault) →
       reply_of held bytes ending ≡ Refused fault →
-      next held (Hearing bytes ending)
+      device_next held (Hearing bytes ending)
       ≡ record held { faults = with_bit held.faults (fault_bit fault) }
   pub silent : (held : Held) (bytes : List ℕ) (ending : Ending) →
-      reply_of held bytes ending ≡ Silent → next held (Hearing bytes ending) ≡ held
+      reply_of held bytes ending ≡ Silent → device_next held (Hearing bytes ending) ≡ held
   pub answered : (held : Held) (bytes : List ℕ) (ending : Ending) →
       reply_of held bytes ending ≢ Silent → reply_of held bytes ending ≢ Taken →
       ((fault : DeviceFault) → reply_of held bytes ending ≢ Refused fault) →
-      next held (Hearing bytes ending) ≡ held
+      device_next held (Hearing bytes ending) ≡ held
   pub taken : (held : Held) (bytes : List ℕ) (ending : Ending) (bit : CmlBit) →
       reply_of held bytes ending ≡ Taken →
-      cml_at (next held (Hearing bytes ending)).faults bit ≡ true →
+      cml_at (device_next held (Hearing bytes ending)).faults bit ≡ true →
       cml_at held.faults bit ≡ true
 
 -- What a converter keeps of what an event makes of it, the words of the cells, the store and PAGE, is
@@ -113,7 +113,7 @@ pub record RefusalsSetOneBit : Type 0 where
 -- STORE_USER_ALL, plain or carried with a page that is there, copies the outputs' words to the store, and
 -- RESTORE_USER_ALL brings them back, where WRITE_PROTECT allows it (`stores`, `restores`).
 pub record WritesReachOneCell : Type 0 where
-  pub kept : (held : Held) (event : Event) → kept_in (next held event) ≡ kept_after held event
+  pub kept : (held : Held) (event : Event) → kept_in (device_next held event) ≡ kept_after held event
   pub request : (held : Held) (bytes : List ℕ) →
       kept_after held (Hearing bytes Restart) ≡ kept_in held
   pub faulty : (held : Held) (bytes : List ℕ) →
@@ -225,13 +225,13 @@ pub record ReadsAreAnswered : Type 0 where
 pub record RegistersSayWhatCallsSay : Type 0 where
   pub page : (held : Held) (output : ℕ) → register_word held output command.page ≡ held.page
   pub status_byte : (held : Held) (output : ℕ) →
-      register_word held output command.status_byte ≡ status_byte held output
+      register_word held output command.status_byte ≡ status_byte_of held output
   pub status_word : (held : Held) (output : ℕ) →
-      register_word held output command.status_word ≡ status_word held output
+      register_word held output command.status_word ≡ status_word_of held output
   pub status_vout : (held : Held) (output : ℕ) →
-      register_word held output command.status_vout ≡ status_vout held output
+      register_word held output command.status_vout ≡ status_vout_of held output
   pub status_cml : (held : Held) (output : ℕ) →
-      register_word held output command.status_cml ≡ status_cml held
+      register_word held output command.status_cml ≡ status_cml_of held
   pub readings : (held : Held) (output code : ℕ) →
       (is_device_reading code || is_output_reading code) ≡ true →
       register_word held output code ≡ reading_at held.readings output code
@@ -248,12 +248,12 @@ pub record RepliesFollowEndings : Type 0 where
 -- past without those hearings (`past`).
 pub record RequestsLatchAtMost : Type 0 where
   pub alone : (held : Held) (bytes : List ℕ) →
-      next held (Hearing bytes Restart) ≡ record held { faults = (next held (Hearing bytes Restart)).faults }
-  pub kept : (held : Held) (bytes : List ℕ) → kept_in (next held (Hearing bytes Restart)) ≡ kept_in held
+      device_next held (Hearing bytes Restart) ≡ record held { faults = (device_next held (Hearing bytes Restart)).faults }
+  pub kept : (held : Held) (bytes : List ℕ) → kept_in (device_next held (Hearing bytes Restart)) ≡ kept_in held
   pub rises : (held : Held) (bytes : List ℕ) (bit : CmlBit) → cml_at held.faults bit ≡ true →
-      cml_at (next held (Hearing bytes Restart)).faults bit ≡ true
+      cml_at (device_next held (Hearing bytes Restart)).faults bit ≡ true
   pub past : (config : Config) (past : List Event) → 1 ≤ config.count → config.count ≤ 8 →
-      now config past ≡ record (now config (without_requests past)) { faults = (now config past).faults }
+      device_now config past ≡ record (device_now config (without_requests past)) { faults = (device_now config past).faults }
 
 -- Bytes are met with silence exactly where they are for another device (`silent`, `only`), and then change nothing that is
 -- held, however they end (`unchanged`). So do all that begin with the address of another device, with either direction,
@@ -265,9 +265,9 @@ pub record FramesForOthersAreSilent : Type 0 where
   pub only : (held : Held) (bytes : List ℕ) (ending : Ending) →
       reply_of held bytes ending ≡ Silent → is_for_other held.config.addr bytes ≡ true
   pub unchanged : (held : Held) (bytes : List ℕ) (ending : Ending) →
-      is_for_other held.config.addr bytes ≡ true → next held (Hearing bytes ending) ≡ held
+      is_for_other held.config.addr bytes ≡ true → device_next held (Hearing bytes ending) ≡ held
   pub neighbour : (addr other : ℕ) (rest : List ℕ) → other ≢ addr →
       (is_for_other addr (write_address other ∷ rest) ≡ true) × (is_for_other addr (read_address other ∷ rest) ≡ true)
   pub read_bit : (addr : ℕ) (rest : List ℕ) → is_for_other addr (read_address addr ∷ rest) ≡ true
   pub past : (config : Config) (past : List Event) → 1 ≤ config.count → config.count ≤ 8 →
-      now config past ≡ now config (without_others config.addr past)
+      device_now config past ≡ device_now config (without_others config.addr past)

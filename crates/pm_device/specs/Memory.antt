@@ -9,7 +9,7 @@ use Rattle.pm_device.specs.declared.image.LatchesImage.{LatchesImage}
 use Rattle.pm_device.specs.declared.image.OutputImage.{OutputImage}
 use Rattle.pm_device.specs.declared.image.ReadingsImage.{ReadingsImage}
 use Rattle.pm_device.specs.Held.{CmlFaults, Held, Measured}
-use Rattle.pm_device.specs.Image.{image_mark, image_version}
+use Rattle.pm_device.specs.Image.{part_image_mark, part_image_version}
 use Rattle.pm_device.specs.Start.{start_row}
 
 -- the flag of a bit
@@ -46,10 +46,10 @@ abbrev pub readings_image : Measured → ReadingsImage
 readings_image readings = record { device = readings.device; outputs = readings.outputs }
 
 -- a converter that holds this
-abbrev pub image_of : Held → PartImage
-image_of h = record {
-  mark = image_mark;
-  version = image_version;
+abbrev pub part_image_of : Held → PartImage
+part_image_of h = record {
+  mark = part_image_mark;
+  version = part_image_version;
   config = config_image h.config;
   page = h.page;
   unused = 0;

@@ -18,7 +18,7 @@ use Rattle.pm_device.specs.declared.verdict.Verdict.{Verdict}
 use Rattle.pm_device.specs.declared.verdict.Verdict.TheVariants.{Ignores, Refuses, Takes, Answers}
 use Rattle.pm_device.specs.Held.{Held, mode_for, reading_at}
 use Rattle.pm_device.specs.Verdict.{verdict_of}
-use Rattle.pm_device.specs.Status.{status_byte, status_word, status_vout, status_cml}
+use Rattle.pm_device.specs.Status.{status_byte_of, status_word_of, status_vout_of, status_cml_of}
 
 -- the word of a code that isn't a cell's
 abbrev pub plain_register : Held → ℕ → ℕ → ℕ
@@ -26,10 +26,10 @@ plain_register held output code =
     if code == command.page then held.page
     else (if code == command.capability then 0x80
     else (if code == command.vout_mode then mode_for held.config output
-    else (if code == command.status_byte then status_byte held output
-    else (if code == command.status_word then status_word held output
-    else (if code == command.status_vout then status_vout held output
-    else (if code == command.status_cml then status_cml held
+    else (if code == command.status_byte then status_byte_of held output
+    else (if code == command.status_word then status_word_of held output
+    else (if code == command.status_vout then status_vout_of held output
+    else (if code == command.status_cml then status_cml_of held
     else (if code == command.pmbus_revision then 0x33
     else reading_at held.readings output code)))))))
 

@@ -21,7 +21,7 @@ use Rattle.pm_table.specs.Cell.{cell_accepts, register_accepts, registers, IsCel
 use Rattle.pm_table.specs.VoutMode.{mode_of}
 use Rattle.pm_table.specs.Format.{shape_in}
 use Rattle.pm_table.specs.Rules.{rule}
-use Rattle.pm_model.specs.Settings.{Words, words_of}
+use Rattle.pm_model.specs.Settings.{Words, words_given_by}
 use Rattle.pm_device.specs.declared.config.Config.{Config}
 use Rattle.pm_device.specs.declared.output_start.OutputStart.{OutputStart}
 use Rattle.pm_device.specs.declared.config_fault.ConfigFault.{ConfigFault}
@@ -38,8 +38,8 @@ register_start MarginLow start = start.low
 register_start VoutMin start = start.min
 
 -- the start with this VOUT_MODE byte and these words of its registers
-abbrev pub start_of : ℕ → (Reg → ℕ) → OutputStart
-start_of mode word = record {
+abbrev pub start_with_words : ℕ → (Reg → ℕ) → OutputStart
+start_with_words mode word = record {
   mode = mode;
   operation = word Operation;
   command = word VoutCommand;
@@ -61,7 +61,7 @@ start_word config Protect = config.protect
 
 -- the words of the cells as a converter starts
 unfoldable pub start_words : Config → Words
-start_words config = words_of (start_word config)
+start_words config = words_given_by (start_word config)
 
 -- the starts of the outputs that there are
 abbrev pub outputs : Config → List OutputStart
@@ -79,7 +79,7 @@ has_direct config = list_any (λ start. is_direct (mode_of start.mode)) (outputs
 
 -- a start that stands for an output that isn't there
 abbrev pub no_start : OutputStart
-no_start = start_of 0 (λ register. 0)
+no_start = start_with_words 0 (λ register. 0)
 
 -- an output's first register that doesn't accept its start word
 abbrev pub bad_register : ℕ → OutputStart → Option Cell

@@ -22,8 +22,8 @@ use Rattle.pm_device.specs.Held.{Held, CmlFaults, value_for}
 use Rattle.pm_device.specs.Effect.{Event, Kept, Outcome, Heard, Restarts, outcome_of, kept_by, started}
 
 -- the byte has the bit set
-abbrev pub has_bit : ℕ → ℕ → Bool
-has_bit byte bit = bit_and byte bit == bit
+abbrev pub has_bit_set : ℕ → ℕ → Bool
+has_bit_set byte bit = bit_and byte bit == bit
 
 -- the bits of STATUS_CML that are set here
 pub data CmlBit : Type 0 where
@@ -90,13 +90,13 @@ from_last test (moment ∷ before) =
 -- an act clears the STATUS_VOUT of an output: CLEAR_FAULTS, or bit 3 written to it
 abbrev pub act_clears_vout : ℕ → Act → Bool
 act_clears_vout output (ClearFaults cleared) = cleared == output
-act_clears_vout output (ClearVout cleared byte) = cleared == output && has_bit byte 0x08
+act_clears_vout output (ClearVout cleared byte) = cleared == output && has_bit_set byte 0x08
 act_clears_vout output _ = false
 
 -- an act clears a bit of STATUS_CML: CLEAR_FAULTS of any output, or that bit written to it
 abbrev pub act_clears_cml : CmlBit → Act → Bool
 act_clears_cml bit (ClearFaults output) = true
-act_clears_cml bit (ClearCml byte) = has_bit byte (cml_mask bit)
+act_clears_cml bit (ClearCml byte) = has_bit_set byte (cml_mask bit)
 act_clears_cml bit _ = false
 
 -- what an event came to clears a bit: it is an act that does by `test`, or a restart, which clears all
@@ -131,43 +131,43 @@ cml_in config past bit = list_any (λ moment. sets_cml bit moment.outcome)
     (from_last (clears (act_clears_cml bit)) (moments config past))
 
 -- a bit of a register, where it is set
-abbrev pub marked : ℕ → Bool → ℕ
-marked bit is_set = if is_set then bit else 0
+abbrev pub bit_if_set : ℕ → Bool → ℕ
+bit_if_set bit is_set = if is_set then bit else 0
 
 -- OPERATION has the output on
-abbrev pub is_on : Held → ℕ → Bool
-is_on held output = has_on (word_at held.words (Out output Operation))
+abbrev pub is_output_on : Held → ℕ → Bool
+is_output_on held output = has_on (word_at held.words (Out output Operation))
 
 -- what is latched of an output
 abbrev pub cut_at : List Bool → ℕ → Bool
 cut_at cut output = slice_index_or cut output false
 
 -- STATUS_VOUT: bit 3, VOUT_MAX_MIN warning
-abbrev pub status_vout : Held → ℕ → ℕ
-status_vout held output = marked 0x08 (cut_at held.cut output)
+abbrev pub status_vout_of : Held → ℕ → ℕ
+status_vout_of held output = bit_if_set 0x08 (cut_at held.cut output)
 
 -- STATUS_CML: bit 7, an unsupported command; bit 6, unsupported data; bit 5, a wrong PEC; bit 1,
 -- another communication fault
 abbrev pub cml_byte : CmlFaults → ℕ
-cml_byte faults = marked 0x80 faults.command + marked 0x40 faults.data + marked 0x20 faults.pec
-    + marked 0x02 faults.other_communication
+cml_byte faults = bit_if_set 0x80 faults.command + bit_if_set 0x40 faults.data + bit_if_set 0x20 faults.pec
+    + bit_if_set 0x02 faults.other_communication
 
-abbrev pub status_cml : Held → ℕ
-status_cml held = cml_byte held.faults
+abbrev pub status_cml_of : Held → ℕ
+status_cml_of held = cml_byte held.faults
 
 -- STATUS_BYTE: bit 6, the output is off; bit 1, a bit of STATUS_CML is set; bit 0, a bit of
 -- STATUS_VOUT is
-abbrev pub status_byte : Held → ℕ → ℕ
-status_byte held output =
-    marked 0x40 (not (is_on held output)) + marked 0x02 (not (status_cml held == 0))
-    + marked 0x01 (cut_at held.cut output)
+abbrev pub status_byte_of : Held → ℕ → ℕ
+status_byte_of held output =
+    bit_if_set 0x40 (not (is_output_on held output)) + bit_if_set 0x02 (not (status_cml_of held == 0))
+    + bit_if_set 0x01 (cut_at held.cut output)
 
 -- STATUS_WORD: STATUS_BYTE; bit 15, a bit of STATUS_VOUT is set; bit 11, the power isn't good, which
 -- is that the output is off
-abbrev pub status_word : Held → ℕ → ℕ
-status_word held output =
-    status_byte held output + marked 0x8000 (cut_at held.cut output)
-    + marked 0x0800 (not (is_on held output))
+abbrev pub status_word_of : Held → ℕ → ℕ
+status_word_of held output =
+    status_byte_of held output + bit_if_set 0x8000 (cut_at held.cut output)
+    + bit_if_set 0x0800 (not (is_output_on held output))
 
 -- one bit of what is latched, and the same with one bit set
 abbrev pub cml_at : CmlFaults → CmlBit → Bool

@@ -70,9 +70,9 @@ selects_no_output count (Select page) = not (nat_lt page count)
 selects_no_output count _ = false
 
 -- the cell accepts the word; every other act is accepted
-abbrev pub is_accepted : Act → Bool
-is_accepted (Put cell word) = cell_accepts cell word
-is_accepted _ = true
+abbrev pub is_act_accepted : Act → Bool
+is_act_accepted (Put cell word) = cell_accepts cell word
+is_act_accepted _ = true
 
 -- what an act results in with this many outputs, while WRITE_PROTECT has this value: K4 where there is no
 -- such output, K5 where WRITE_PROTECT blocks the code, K3 where the cell doesn't accept the word
@@ -80,7 +80,7 @@ abbrev pub act_verdict : ℕ → ℕ → Message → Act → Verdict
 act_verdict count protect message act =
     if names_no_output count message || selects_no_output count act then Refuses BadPage
     else (if not (is_allowed protect (message_code message)) then Refuses Protected
-    else (if not (is_accepted act) then Refuses UnsupportedData
+    else (if not (is_act_accepted act) then Refuses UnsupportedData
     else Takes act))
 
 -- what a write without a fault results in; K2 where there is no act for its code, which never comes: each

@@ -54,7 +54,7 @@ impl Act {
 
     /// Whether the cell accepts the word that it would get; every other act is accepted.
     pub(crate) fn is_accepted(&self) -> bool
-        ensures { result ≡ spec.is_accepted self.now }
+        ensures { result ≡ spec.is_act_accepted self.now }
     {
         match self {
             Act::Put(cell, word) => cell.accepts(*word),

@@ -8,8 +8,8 @@ ghost use Rattle.pm_model.specs.Commanded.{commanded, greatest_value, least_valu
 ghost use Rattle.pm_device.specs.Held.{is_reading, value_for};
 ghost use Rattle.pm_device.specs.Start.{IsSound, config_fault as spec_config_fault};
 ghost use Rattle.pm_device.specs.Effect.{Hearing, Restarted, Reading};
-ghost use Rattle.pm_device.specs.Status.{is_on};
-ghost use Rattle.pm_device.specs.History.{next, start_of};
+ghost use Rattle.pm_device.specs.Status.{is_output_on};
+ghost use Rattle.pm_device.specs.History.{device_next, start_of};
 ghost use Rattle.pm_device.specs.Reply.{reply_of};
 
 use crate::cml_latches::CmlLatches;
@@ -128,9 +128,9 @@ impl Converter {
     /// Every cell of an output has its word in the store and WRITE_PROTECT its start word, PAGE is 0,
     /// and what is latched is clear, but for a status bit whose cause holds. The store and the readings
     /// stay.
-    #[tactic(auto, unfolding(crate::specs::History::next, crate::specs::History::after))]
+    #[tactic(auto, unfolding(crate::specs::History::device_next, crate::specs::History::after_outcome))]
     pub fn restart(&mut self)
-        ensures after { self.new ≡ next self.old Restarted }
+        ensures after { self.new ≡ device_next self.old Restarted }
         ensures config { self.new.config ≡ self.old.config }
         ensures protect { word_at self.new.words Cell.Protect ≡ self.old.config.protect }
     {
@@ -143,10 +143,10 @@ impl Converter {
     /// Gives a reading another word: one of [`OUTPUT_READINGS`](crate::OUTPUT_READINGS) of an output, or one of
     /// [`DEVICE_READINGS`](crate::DEVICE_READINGS) of the device, for which the output isn't looked at.
     /// `false` if the output isn't there or the code is no READ code; then nothing changes.
-    #[tactic(auto, unfolding(crate::specs::History::next, crate::specs::History::after))]
+    #[tactic(auto, unfolding(crate::specs::History::device_next, crate::specs::History::after_outcome))]
     pub fn set_reading(&mut self, output: u8, code: Code, word: u16) -> bool
         ensures answer { result ≡ is_reading self.old.config.count output code.0 }
-        ensures after { self.new ≡ next self.old (Reading output code.0 word) }
+        ensures after { self.new ≡ device_next self.old (Reading output code.0 word) }
         ensures config { self.new.config ≡ self.old.config }
     {
         self.readings.set(self.config.count, output, code, word)
@@ -157,10 +157,10 @@ impl Converter {
     /// [`Heard::Refused`] with the first of K1, K2, K6, K7, K4, K5 and K3 that applies. Only K2 and K7 of a
     /// request of a code come before the K1 of bytes after it. A refusal changes no setting, no word in the
     /// store and no PAGE, and sets one bit of STATUS_CML.
-    #[tactic(auto, unfolding(crate::specs::Reply::reply_of, crate::specs::History::next, crate::specs::History::after))]
+    #[tactic(auto, unfolding(crate::specs::Reply::reply_of, crate::specs::History::device_next, crate::specs::History::after_outcome))]
     pub fn hear(&mut self, bytes: &[u8], ending: Ending) -> Heard
         ensures reply { result ≡ reply_of self.old bytes.now ending }
-        ensures after { self.new ≡ next self.old (Hearing bytes.now ending) }
+        ensures after { self.new ≡ device_next self.old (Hearing bytes.now ending) }
         ensures config { self.new.config ≡ self.old.config }
     {
         let verdict = self.verdict(bytes, ending);
@@ -233,7 +233,7 @@ impl Converter {
     /// Whether OPERATION has an output which is there on.
     pub fn is_on(&self, output: u8) -> bool
         requires { output < self.now.config.count }
-        ensures { result ≡ is_on self.now output }
+        ensures { result ≡ is_output_on self.now output }
     {
         Operation::has_on(self.word(Cell::Out(output, Reg::Operation)))
     }

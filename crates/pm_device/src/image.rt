@@ -1,7 +1,7 @@
 //! A converter in memory that a caller keeps who isn't Rattle: plain numbers, and what they mean.
 
 ghost use Rattle.std.specs.Prelude.{◌≡◌, map, None};
-ghost use Rattle.pm_device.specs.Image.{config_held, device_of, is_current, is_set, start_held};
+ghost use Rattle.pm_device.specs.Image.{config_held, device_of, is_current_part_image, is_set, start_held};
 ghost use Rattle.pm_device.specs.Memory.{config_image, flag_image, start_image};
 
 use crate::config::Config;
@@ -198,7 +198,7 @@ impl PartImage {
 
     // Whether the image has this layout.
     pub(crate) fn is_current(&self) -> bool
-        ensures { result ≡ is_current self.now }
+        ensures { result ≡ is_current_part_image self.now }
     {
         self.mark == PartImage::MARK && self.version == PartImage::VERSION
     }

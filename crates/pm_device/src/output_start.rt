@@ -27,7 +27,7 @@ pub struct OutputStart {
 impl OutputStart {
     ghost use Rattle.std.specs.Prelude.{slice_index};
     ghost use Rattle.pm_table.specs.Cell.{register_number};
-    ghost use Rattle.pm_device.specs.Start.{register_start, start_of, start_row};
+    ghost use Rattle.pm_device.specs.Start.{register_start, start_with_words, start_row};
 
     /// What stands in a configuration for an output that isn't there.
     pub const NONE: OutputStart = OutputStart {
@@ -42,7 +42,7 @@ impl OutputStart {
 
     /// The start with this VOUT_MODE byte and the words of the registers, in the order of `Reg`.
     pub fn of(mode: u8, words: [u16; Reg::COUNT]) -> OutputStart
-        ensures { result ≡ start_of mode (λ register. slice_index words (register_number register)) }
+        ensures { result ≡ start_with_words mode (λ register. slice_index words (register_number register)) }
     {
         let [operation, command, max, high, low, min] = words;
         OutputStart {

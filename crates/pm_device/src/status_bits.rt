@@ -2,7 +2,7 @@
 //! sets is always 0.
 
 ghost use Rattle.std.specs.Prelude.{⊤, ◌≡◌, ◌+◌, [], ◌∷◌, codes};
-ghost use Rattle.pm_device.specs.Status.{marked};
+ghost use Rattle.pm_device.specs.Status.{bit_if_set};
 
 use bitflags::{Flag, Flags, bitflag_items};
 
@@ -238,7 +238,7 @@ pub(crate) struct OutputStatus {
 impl StatusByte {
     /// STATUS_BYTE of an output with this status.
     pub(crate) fn new(shown: OutputStatus) -> StatusByte
-        ensures { result.0 ≡ marked 0x40 shown.off + marked 0x02 shown.cml + marked 0x01 shown.vout }
+        ensures { result.0 ≡ bit_if_set 0x40 shown.off + bit_if_set 0x02 shown.cml + bit_if_set 0x01 shown.vout }
     {
         let mut status = StatusByte::empty();
         status.set(StatusByte::OFF, shown.off);
@@ -251,8 +251,8 @@ impl StatusByte {
 impl StatusWord {
     /// STATUS_WORD of an output with this status.
     pub(crate) fn new(shown: OutputStatus) -> StatusWord
-        ensures { result.0 ≡ marked 0x40 shown.off + marked 0x02 shown.cml + marked 0x01 shown.vout
-            + marked 0x8000 shown.vout + marked 0x0800 shown.off }
+        ensures { result.0 ≡ bit_if_set 0x40 shown.off + bit_if_set 0x02 shown.cml + bit_if_set 0x01 shown.vout
+            + bit_if_set 0x8000 shown.vout + bit_if_set 0x0800 shown.off }
     {
         let mut status = StatusWord::empty();
         status.set(StatusWord::OFF, shown.off);
@@ -267,7 +267,7 @@ impl StatusWord {
 impl StatusVout {
     /// What an output shows whose selected value was above VOUT_MAX or below VOUT_MIN, or wasn't.
     pub(crate) fn new(cut: bool) -> StatusVout
-        ensures { result.0 ≡ marked 0x08 cut }
+        ensures { result.0 ≡ bit_if_set 0x08 cut }
     {
         let mut status = StatusVout::empty();
         status.set(StatusVout::MAX_WARNING, cut);

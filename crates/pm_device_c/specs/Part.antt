@@ -15,17 +15,17 @@ use Rattle.pm_device.specs.Held.{Held, value_for}
 use Rattle.pm_device_c.specs.declared.reply_image.ReplyImage.{ReplyImage}
 
 -- a stop ends the frame, or a repeated start where this isn't 0
-abbrev pub ending_of : ℕ → Ending
-ending_of request = if request == 0 then Stop else Restart
+abbrev pub ending_of_number : ℕ → Ending
+ending_of_number request = if request == 0 then Stop else Restart
 
 -- the number of a bit
 abbrev pub flag_of : Bool → ℕ
 flag_of bit = if bit then 1 else 0
 
 -- the bytes of the answer; none where there is none
-abbrev pub heard_bytes : Heard → List ℕ
-heard_bytes (Answer frame) = frame.items
-heard_bytes _ = []
+abbrev pub bytes_of_answer : Heard → List ℕ
+bytes_of_answer (Answer frame) = frame.items
+bytes_of_answer _ = []
 
 -- the number of the frame's fault, 0 of every other
 abbrev pub frame_number : DeviceFault → ℕ
@@ -39,7 +39,7 @@ heard_fault _ = 0
 
 -- the bytes of the answer stand in front, and what stands after them stays; beside them the fault of the frame
 pub record HasReply (heard : Heard) (before after : ReplyImage) : Type 0 where
-  pub bytes : take after.length after.bytes ≡ heard_bytes heard
+  pub bytes : take after.length after.bytes ≡ bytes_of_answer heard
   pub rest : drop after.length after.bytes ≡ drop after.length before.bytes
   pub fault : after.frame_fault ≡ heard_fault heard
 

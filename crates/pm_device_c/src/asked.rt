@@ -4,8 +4,8 @@ ghost use Rattle.std.specs.Prelude.{◌≡◌, ◌≢◌, IsSomeAnd};
 ghost use Rattle.pm_num.specs.Ratio.{IsMicroFloor};
 ghost use Rattle.pm_table.specs.Cell.{cell_at};
 ghost use Rattle.pm_device.specs.Image.{device_of};
-ghost use Rattle.pm_device.specs.Status.{is_on};
-ghost use Rattle.pm_device_c.specs.Numbers.{cell_number, commanded_number, output_number, stored_number, there_number};
+ghost use Rattle.pm_device.specs.Status.{is_output_on};
+ghost use Rattle.pm_device_c.specs.Numbers.{part_cell_number, commanded_number, part_output_number, stored_number, there_number};
 ghost use Rattle.pm_device_c.specs.Part.{commanded_now, flag_of, IsStored, IsWord};
 
 use crate::numbers::{ACCEPTED, NO_CELL, NO_OUTPUT, NO_PART};
@@ -16,7 +16,7 @@ use pm_table::{Cell, Code, cell_of};
 /// output isn't there.
 #[unsafe(no_mangle)]
 pub extern "C" fn pm_part_word(part: &PartImage, output: u8, code: u8, word: &mut u16) -> u8
-    ensures number { result ≡ cell_number (device_of part.now) (cell_at code output) }
+    ensures number { result ≡ part_cell_number (device_of part.now) (cell_at code output) }
     ensures word { result ≡ 0 → IsWord (device_of part.now) (cell_at code output) word.new }
     ensures refused { result ≢ 0 → word.new ≡ word.old }
 {
@@ -100,8 +100,8 @@ pub extern "C" fn pm_part_commanded_microvolts(
 /// 1 if OPERATION has an output on, otherwise 0. E5h, 4 if the output isn't there.
 #[unsafe(no_mangle)]
 pub extern "C" fn pm_part_on_state(part: &PartImage, output: u8, on: &mut u8) -> u8
-    ensures number { result ≡ output_number (device_of part.now) output }
-    ensures on { result ≡ 0 → IsSomeAnd (device_of part.now) (λ held. on.new ≡ flag_of (is_on held output)) }
+    ensures number { result ≡ part_output_number (device_of part.now) output }
+    ensures on { result ≡ 0 → IsSomeAnd (device_of part.now) (λ held. on.new ≡ flag_of (is_output_on held output)) }
     ensures refused { result ≢ 0 → on.new ≡ on.old }
 {
     let Some(converter) = &Converter::read(part) else {

@@ -2,13 +2,13 @@
 
 ghost use Rattle.std.specs.Prelude.{◌≡◌, ◌≢◌, None, Some, option_map, IfSome};
 ghost use Rattle.pm_device.specs.Effect.{Hearing, Reading, Restarted};
-ghost use Rattle.pm_device.specs.History.{next, start_of};
+ghost use Rattle.pm_device.specs.History.{device_next, start_of};
 ghost use Rattle.pm_device.specs.Image.{config_held, device_of};
-ghost use Rattle.pm_device.specs.Memory.{image_of};
+ghost use Rattle.pm_device.specs.Memory.{part_image_of};
 ghost use Rattle.pm_device.specs.Reply.{reply_of};
 ghost use Rattle.pm_device.specs.Start.{config_fault};
 ghost use Rattle.pm_device_c.specs.Numbers.{heard_now_number, made_number, reading_number, there_number};
-ghost use Rattle.pm_device_c.specs.Part.{ending_of, IsReply};
+ghost use Rattle.pm_device_c.specs.Part.{ending_of_number, IsReply};
 ghost use Rattle.pm_device_c.specs.Sizes.{part_size};
 
 use crate::numbers::{ACCEPTED, NO_OUTPUT, NO_PART, NO_READING};
@@ -31,7 +31,7 @@ pub extern "C" fn pm_part_size() -> usize
 pub extern "C" fn pm_part_new(part: &mut PartImage, config: &ConfigImage) -> u8
     ensures number { result ≡ made_number (config_fault (config_held config.now)) }
     ensures made { result ≡ 0 → device_of part.new ≡ Some (start_of (config_held config.now)) }
-    ensures written { result ≡ 0 → part.new ≡ image_of (start_of (config_held config.now)) }
+    ensures written { result ≡ 0 → part.new ≡ part_image_of (start_of (config_held config.now)) }
     ensures refused { result ≢ 0 → part.new ≡ part.old }
 {
     match Converter::new(config.config()) {
@@ -54,16 +54,16 @@ pub extern "C" fn pm_part_hear(
     is_request: u8,
     reply: &mut ReplyImage,
 ) -> u8
-    ensures number { let heard = option_map (λ held. reply_of held bytes.now (ending_of is_request))
+    ensures number { let heard = option_map (λ held. reply_of held bytes.now (ending_of_number is_request))
         (device_of part.old) in
         result ≡ heard_now_number heard }
-    ensures answer { let heard = option_map (λ held. reply_of held bytes.now (ending_of is_request))
+    ensures answer { let heard = option_map (λ held. reply_of held bytes.now (ending_of_number is_request))
         (device_of part.old) in
         IsReply heard reply.old reply.new }
     ensures after { device_of part.new
-        ≡ option_map (λ held. next held (Hearing bytes.now (ending_of is_request))) (device_of part.old) }
+        ≡ option_map (λ held. device_next held (Hearing bytes.now (ending_of_number is_request))) (device_of part.old) }
     ensures written { IfSome (device_of part.old)
-        (λ held. part.new ≡ image_of (next held (Hearing bytes.now (ending_of is_request)))) }
+        (λ held. part.new ≡ part_image_of (device_next held (Hearing bytes.now (ending_of_number is_request)))) }
     ensures refused { device_of part.old ≡ None → part.new ≡ part.old }
 {
     match &mut Converter::read(part) {
@@ -78,7 +78,7 @@ pub extern "C" fn pm_part_hear(
 
 // How a frame ends.
 fn ending(is_request: u8) -> Ending
-    ensures { result ≡ ending_of is_request }
+    ensures { result ≡ ending_of_number is_request }
 {
     if is_request == 0 {
         Ending::Stop
@@ -92,8 +92,8 @@ fn ending(is_request: u8) -> Ending
 #[unsafe(no_mangle)]
 pub extern "C" fn pm_part_restart(part: &mut PartImage) -> u8
     ensures number { result ≡ there_number (device_of part.old) }
-    ensures after { device_of part.new ≡ option_map (λ held. next held Restarted) (device_of part.old) }
-    ensures written { IfSome (device_of part.old) (λ held. part.new ≡ image_of (next held Restarted)) }
+    ensures after { device_of part.new ≡ option_map (λ held. device_next held Restarted) (device_of part.old) }
+    ensures written { IfSome (device_of part.old) (λ held. part.new ≡ part_image_of (device_next held Restarted)) }
     ensures refused { result ≢ 0 → part.new ≡ part.old }
 {
     match &mut Converter::read(part) {
@@ -112,9 +112,9 @@ pub extern "C" fn pm_part_restart(part: &mut PartImage) -> u8
 pub extern "C" fn pm_part_set_reading(part: &mut PartImage, output: u8, code: u8, word: u16) -> u8
     ensures number { result ≡ reading_number (device_of part.old) output code }
     ensures after { result ≡ 0 → device_of part.new
-        ≡ option_map (λ held. next held (Reading output code word)) (device_of part.old) }
+        ≡ option_map (λ held. device_next held (Reading output code word)) (device_of part.old) }
     ensures written { result ≡ 0 → IfSome (device_of part.old)
-        (λ held. part.new ≡ image_of (next held (Reading output code word))) }
+        (λ held. part.new ≡ part_image_of (device_next held (Reading output code word))) }
     ensures refused { result ≢ 0 → part.new ≡ part.old }
 {
     match &mut Converter::read(part) {

@@ -11,7 +11,7 @@ use Rattle.pm_device.specs.{Held.Held, declared.config.Config.Config}
 use Rattle.pm_host.specs.{Jobs.accepted_job, Laws.TranscriptsAreFollowed, Transcript.Entry, declared.fault.Untold.Untold}
 use Rattle.pm_host.specs.{declared.host.Step.Step, declared.job.Job.Job as Asked, declared.stage.Stage.Stage}
 use Rattle.pm_host.specs.Refusals.{is_busy, may_come}
-use Rattle.pm_host.specs.Summary.{Summary, next as host_next, step_of}
+use Rattle.pm_host.specs.Summary.{Summary, host_next, step_of}
 use Rattle.pm_host.specs.Transcript as host
 use Rattle.pm_host.specs.declared.host.Step.TheVariants.{Next as StepNext, Ended as StepEnded}
 use Rattle.pm_host.specs.declared.job.Job.TheVariants.{Check, Learn, Order, OrderMicro, Send}
@@ -22,7 +22,8 @@ use Rattle.pm_rail.specs.{Laws.CoursesEnd, Survey.has_read, declared.course.Cour
 use Rattle.pm_rail.specs.{declared.fault.PlanFault.PlanFault, declared.fault.PlanFault.TheVariants.Protected, declared.next.Next.Next}
 use Rattle.pm_rail.specs.{declared.orders.PlanOrder.PlanOrder, declared.wanted.Wanted.Wanted}
 use Rattle.pm_rail.specs.Course.{after_next, next_of, ordering, renewed, says, told_of}
-use Rattle.pm_rail.specs.Lemmas.Says.{Said, after-own, asks-due, asks-so, off-job, said, says-busy, says-differs, says-due, says-missing}
+use Rattle.pm_rail.specs.Lemmas.Says.{Said, after-own, asks-due, asks-so, off-job, says_is_said, says-busy, says-differs, says-due}
+use Rattle.pm_rail.specs.Lemmas.Says.{says-missing}
 use Rattle.pm_rail.specs.Lemmas.Says.{says-off, says-order, taken, told-own}
 use Rattle.pm_rail.specs.declared.next.Next.TheVariants as way
 use Rattle.pm_course.specs.{Surprise.surprises, declared.course_end.CourseEnd.CourseEnd, declared.course_end.CourseNext.CourseNext}
@@ -30,7 +31,8 @@ use Rattle.pm_course.specs.{declared.course_end.Refusal.Refusal, declared.frame_
 use Rattle.pm_course.specs.{declared.frames.Sending.Sending}
 use Rattle.pm_course.specs.Ends.{busy_end, end_of, refusal_of_plan, refusal_of_job}
 use Rattle.pm_course.specs.FrameCourse as course
-use Rattle.pm_course.specs.FrameCourse.{Says, SaysNext, asked_for, asking_for, asks, ends, last_end, missing_of, planning, protect_in}
+use Rattle.pm_course.specs.FrameCourse.{Says, SaysNext, asked_for, asking_for, course_asks, course_ends, last_end, missing_of, planning}
+use Rattle.pm_course.specs.FrameCourse.{protect_in}
 use Rattle.pm_course.specs.FrameCourse.{saying, saying_by, saying_for, saying_missing, saying_next, saying_planned, saying_source}
 use Rattle.pm_course.specs.FrameCourse.{source_of, turn, turning, with_plan}
 use Rattle.pm_course.specs.Frames.{HandsOut, Hears, IsSent, SaysBy, again, begun, heard, nothing, other, over as has_ended}
@@ -43,7 +45,7 @@ use Rattle.pm_world.specs.{declared.event.Event.Event}
 use Rattle.pm_world.specs.declared.event.Event.TheVariants.{Deliver, Reading, RestartDevice}
 use Rattle.pm_course_laws.specs.FrameLives.{IsFrameCourse, asks as frame_lives_asks, beside, goes_on as still, hears}
 use Rattle.pm_driver.specs.{Laws.LawsOfLives, Steps.IsCalled}
-use Rattle.pm_driver.specs.Acts.{Began, Call, Called, MayDo, told_of as acts_told_of}
+use Rattle.pm_driver.specs.Acts.{Began, Call, Called, MayDo, told_of_call as acts_told_of}
 use Rattle.pm_driver.specs.Bus.{AreAll, restarts_in}
 use Rattle.pm_driver.specs.Courses.{Carries, EndsAt, KeepsTo, over, refused}
 use Rattle.pm_driver.specs.Lives.{Driven, IsLife, Leads}
@@ -63,7 +65,7 @@ IsPlain (Send command) = ⊥
 -- the way names such a job
 says-plain : (part : PartRegisters) (limits : OutputLimits) (s : Summary) (c : Course) (job : Asked) → says part limits s c ≡ way.Job job →
     IsPlain job
-says-plain part limits s c job is = go (says part limits s c) (said part limits s c) is where
+says-plain part limits s c job is = go (says part limits s c) (says_is_said part limits s c) is where
   by-order : (order : Result (Option PlanOrder) PlanFault) → ordering c order ≡ way.Job job → IsPlain job
   by-order (Err fault) e = cc
   by-order (Ok None) e = cc
@@ -120,10 +122,10 @@ module _ (g : Guarded) (c : FrameCourse) where
   way_to formed = with_plan c.course (planning c.course formed)
 
   -- what it says is an end, or a job in the place of the one that its way names
-  saying-so : (P : Says → Type 0) → ((end : CourseEnd) → P (ends c end)) →
+  saying-so : (P : Says → Type 0) → ((end : CourseEnd) → P (course_ends c end)) →
       ((formed : Wanted) (named job : Asked) → next_of part limits s (way_to formed) ≡ way.Job named →
       asked_for s c.course c.course.byte named ≡ Ok job →
-      P (asks c (asking_for c.course (after_next part limits s (way_to formed)) named job) job)) →
+      P (course_asks c (asking_for c.course (after_next part limits s (way_to formed)) named job) job)) →
       (words : Result Wanted Refusal) → P (saying part limits s c words)
   saying-so P e a words = by-last (last_end c.end) where
     by-asked : (formed : Wanted) (named : Asked) → next_of part limits s (way_to formed) ≡ way.Job named → (r : Result Asked Refusal) →
@@ -148,7 +150,7 @@ module _ (g : Guarded) (c : FrameCourse) where
     by-missing (Some refusal) = e (Refused refusal)
     by-missing None = by-source (source_of s c.course c.course.byte)
 
-    by-busy : (b : Bool) → P (if b then ends c busy_end else saying_missing part limits s c words (missing_of part c))
+    by-busy : (b : Bool) → P (if b then course_ends c busy_end else saying_missing part limits s c words (missing_of part c))
     by-busy true = e busy_end
     by-busy false = by-missing (missing_of part c)
 
@@ -169,7 +171,7 @@ module _ (g : Guarded) (c : FrameCourse) where
     where
       so : (formed : Wanted) (named j : Asked) → next_of part limits s (way_to formed) ≡ way.Job named →
           asked_for s c.course c.course.byte named ≡ Ok j → Job j ≡ Job job →
-          SaysJob job (asks c (asking_for c.course (after_next part limits s (way_to formed)) named j) j).after
+          SaysJob job (course_asks c (asking_for c.course (after_next part limits s (way_to formed)) named j) j).after
       so formed named j is-next is-asked e = record {
         plain = (let same : j ≡ job = cc in subst IsPlain same
             (for-plain s c.course c.course.byte named j (next-plain part limits s (way_to formed) named is-next) is-asked));

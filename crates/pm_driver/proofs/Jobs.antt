@@ -23,7 +23,7 @@ use Rattle.pm_frame.specs.declared.fault.FrameFault.TheVariants.{NotOurs, Short,
 use Rattle.pm_device.specs.{Effect.kept_in, Reply.reply_of, declared.config.Config.Config}
 use Rattle.pm_device.specs.Effect as device
 use Rattle.pm_device.specs.Held.{shape_for, Held}
-use Rattle.pm_device.specs.History.{next as device_next, after}
+use Rattle.pm_device.specs.History.{device_next, after_outcome}
 use Rattle.pm_device.specs.declared.converter.Ending.TheVariants.{Stop, Restart}
 use Rattle.pm_host.specs.{Jobs.accepted_job, Laws.TranscriptsAreFollowed, Question.question_message, Standing.standing_of}
 use Rattle.pm_host.specs.{declared.fault.HostFault.HostFault, declared.fault.HostFault.TheVariants.Busy, declared.host.Step.Step}
@@ -32,15 +32,17 @@ use Rattle.pm_host.specs.{declared.question.Question.Question, declared.stage.St
 use Rattle.pm_host.specs.Answers.{good_word, good_payload, word_in}
 use Rattle.pm_host.specs.Frames.{frames_from, frames_left}
 use Rattle.pm_host.specs.Marks.{read_by, Good, goods, marks, put_by, puts}
-use Rattle.pm_host.specs.Now.{AreTold, job_stage, now as host_now, stage_of}
+use Rattle.pm_host.specs.Now.{AreTold, job_stage, host_now, stage_of}
 use Rattle.pm_host.specs.Refusals.{IsSetup, sends_read, is_busy, may_come, sends_write, cell_fault, job_fault, micro_word, order_fault}
 use Rattle.pm_host.specs.Sound.{IsStage, IsSound}
-use Rattle.pm_host.specs.Summary.{sending_in, format_at, standing_at, Change, Summary, answer_taken, answered as summary_answered, asked}
-use Rattle.pm_host.specs.Summary.{ends, finished as summary_finished, goes_on, idle, learned, marked, mode_taken, read_back}
-use Rattle.pm_host.specs.Summary.{next as host_next, sends, stage_message, step_of, writes}
+use Rattle.pm_host.specs.Summary.{sending_in, format_at, standing_at, Change, Summary, answer_taken, request_answered as summary_answered}
+use Rattle.pm_host.specs.Summary.{question_answered}
+use Rattle.pm_host.specs.Summary.{ends, finished as summary_finished, goes_on_at, idle, learned, marked, mode_taken, read_back}
+use Rattle.pm_host.specs.Summary.{host_next, sends, stage_message, step_of, writes}
 use Rattle.pm_host.specs.Transcript as host
-use Rattle.pm_host.specs.Transcript.{Setup, Job, Order, Check, Entry, Finished, Got, Learn, check_end, coefficients_tries, mode_told}
-use Rattle.pm_host.specs.Transcript.{end_of, is_write_turn, job_end, job_message, last_end, last_job, open_job, order_end, sending_of}
+use Rattle.pm_host.specs.Transcript.{Setup, Job, Order, Check, Entry, Finished, Got, Learn, check_end, coefficients_tries, vout_mode_told}
+use Rattle.pm_host.specs.Transcript.{last_job_end, is_write_turn, job_end, job_message, last_pass_end, last_job, open_job, order_end}
+use Rattle.pm_host.specs.Transcript.{sending_of}
 use Rattle.pm_host.specs.Transcript.{told_since, Accepted, Restarted, Send, found, found_for, format_of_output, learn_end}
 use Rattle.pm_host.specs.declared.host.Step.TheVariants.{Next, Ended}
 use Rattle.pm_host.specs.declared.job.Job.TheVariants as job
@@ -61,12 +63,12 @@ use Rattle.pm_world.specs.State.{finish_cause, hears, rule, tells}
 use Rattle.pm_world.specs.declared.cause.Cause.TheVariants.{WrongKind, NotBetrayed}
 use Rattle.pm_world.specs.declared.event.Event.TheVariants.{Exchange, Finish, Deliver, Reading, RestartDevice}
 use Rattle.pm_part_laws.specs.Alike.{back_of}
-use Rattle.pm_part_laws.specs.Lemmas.Pageless.{ComesBack, IsHeardPageless, comes-same, own-same, request-pageless, write-pageless}
+use Rattle.pm_part_laws.specs.Lemmas.Pageless.{ComesBack, IsHeardPageless, comes-same, own-same, request-pageless, write-pageless, answer_of}
 use Rattle.pm_course_laws.specs.FrameLives.{goes_on as still}
-use Rattle.pm_driver.specs.Acts.{Call, Read, Wrote, told_of, Called, MayDo, IsNoWrite, Looked, Began}
-use Rattle.pm_driver.specs.Bus.{AreAll, answer_of, restarts_in, held_by, is_beside, may_hear, IsAsked, held_after}
+use Rattle.pm_driver.specs.Acts.{Call, Read, Wrote, told_of_call, Called, MayDo, IsNoWrite, Looked, Began}
+use Rattle.pm_driver.specs.Bus.{AreAll, restarts_in, held_after_one, is_beside_bus, may_hear, IsAsked, held_after}
 use Rattle.pm_driver.specs.Driven.{Driving, HasLife, driven, HasNoRestartSince, Runs}
-use Rattle.pm_driver.specs.Ends.{Stands, EndSays, cell_read}
+use Rattle.pm_driver.specs.Ends.{Stands, EndSays, cell_of_end}
 use Rattle.pm_driver.specs.Laws.{EndIsTrue, EndsAreTrue, LawsOfLives, LeadsCompose}
 use Rattle.pm_driver.specs.Lives.{IsLife, newest_tells, EndsSo, EndsTold, Goes, Leads, jobs_asked, with_job}
 use Rattle.pm_driver.specs.Looks.{Looks, RequestsAreNoWrites}
@@ -92,7 +94,7 @@ word_in_end word Learned = None
 -- an order that ends so: it isn't the turn of a read, and the newest answer has that word
 order-end : (turn found_is last : Bool) (found : Option ℕ) (word : ℕ) (end : JobEnd) (read : ℕ) →
     option_map_or (λ w. eqb w word) found false ≡ found_is →
-    cond (not turn) None (cond found_is (Some Done) (cond last (Some (last_end found)) None)) ≡ Some end →
+    cond (not turn) None (cond found_is (Some Done) (cond last (Some (last_pass_end found)) None)) ≡ Some end →
     word_in_end word end ≡ Some read → (turn ≡ true) × (found ≡ Some read)
 order-end false found_is last found word end read is h says = cc
 order-end true true last None word end read is h says = cc
@@ -118,7 +120,7 @@ odd-before n h = go (eqb (n % 2) 0) refl where
 -- the job that is open while a read is being sent
 opened : (setup : Setup) (entries : List Entry) (job : Job) → open_job setup entries ≡ Some job → last_job entries ≡ Some job
 unfolding open_job
-opened setup entries job is = go (is_none (end_of setup entries)) is where
+opened setup entries job is = go (is_none (last_job_end setup entries)) is where
   go : (b : Bool) → cond b (last_job entries) None ≡ Some job → last_job entries ≡ Some job
   go true e = e
   go false e = cc
@@ -177,7 +179,7 @@ learn-open : TranscriptsAreFollowed → (setup : Setup) (entries : List Entry) (
 unfolding host_now
 learn-open laws setup entries output made told is =
     let T = told_since entries in
-    go (is_some (mode_told setup output T)) (stage-sound laws setup entries (Learn output) made told is) where
+    go (is_some (vout_mode_told setup output T)) (stage-sound laws setup entries (Learn output) made told is) where
       go : (b : Bool) → IsStage (host_now setup entries) (Some (cond b (Asks (Coefficients output) (coefficients_tries setup output
           (told_since entries)))
           (Asks (Mode output) (length (told_since entries))))) → output < setup.outputs
@@ -201,8 +203,8 @@ learn-there laws setup before entry output made told last (inr is) = cc
 pub order-read : TranscriptsAreFollowed → (setup : Setup) (before : List Entry) (bytes : List ℕ) (cell : Cell) (word : ℕ)
     (end : JobEnd) (read : ℕ) →
     IsSetup setup → AreTold setup (Got bytes ∷ before) → last_job before ≡ Some (Order cell word) →
-    end_of setup (Got bytes ∷ before) ≡ Some end → word_in_end word end ≡ Some read → WasRead setup before bytes cell read
-unfolding end_of
+    last_job_end setup (Got bytes ∷ before) ≡ Some end → word_in_end word end ≡ Some read → WasRead setup before bytes cell read
+unfolding last_job_end
 order-read laws setup before bytes cell word end read made told last ended says =
     let T = told_since before in
     let here : order_end setup cell word (Got bytes ∷ T) ≡ Some end =
@@ -220,8 +222,8 @@ order-read laws setup before bytes cell word end read made told last ended says 
 -- no order that reads back ends with a write
 pub order-wrote : (setup : Setup) (before : List Entry) (acked : Bool) (cell : Cell) (word : ℕ) (end : JobEnd) (read : ℕ) →
     last_job before ≡ Some (Order cell word) →
-    end_of setup (Finished acked ∷ before) ≡ Some end → word_in_end word end ≡ Some read → ⊥
-unfolding end_of
+    last_job_end setup (Finished acked ∷ before) ≡ Some end → word_in_end word end ≡ Some read → ⊥
+unfolding last_job_end
 order-wrote setup before acked cell word end read last ended says =
     let T = told_since before in
     let here : order_end setup cell word (Finished acked ∷ T) ≡ Some end =
@@ -241,8 +243,8 @@ check-end None false h = cc
 -- a check that is done once bytes came back read a word of its cell
 pub check-read : TranscriptsAreFollowed → (setup : Setup) (before : List Entry) (bytes : List ℕ) (cell : Cell) →
     IsSetup setup → AreTold setup (Got bytes ∷ before) → last_job before ≡ Some (Check cell) →
-    end_of setup (Got bytes ∷ before) ≡ Some Done → (word : ℕ) × WasRead setup before bytes cell word
-unfolding end_of
+    last_job_end setup (Got bytes ∷ before) ≡ Some Done → (word : ℕ) × WasRead setup before bytes cell word
+unfolding last_job_end
 check-read laws setup before bytes cell made told last ended =
     let T = told_since before in
     let here : check_end setup cell (Got bytes ∷ T) ≡ Some Done =
@@ -259,8 +261,8 @@ check-read laws setup before bytes cell made told last ended =
 
 -- no check is done with the end of a write
 pub check-wrote : (setup : Setup) (before : List Entry) (acked : Bool) (cell : Cell) → last_job before ≡ Some (Check cell) →
-    end_of setup (Finished acked ∷ before) ≡ Some Done → ⊥
-unfolding end_of
+    last_job_end setup (Finished acked ∷ before) ≡ Some Done → ⊥
+unfolding last_job_end
 check-wrote setup before acked cell last ended =
     let T = told_since before in
     let here : check_end setup cell (Finished acked ∷ T) ≡ Some Done =
@@ -300,7 +302,7 @@ goods-so setup before bytes cell word was =
 
 -- the marks of a good answer that ended its job
 marks-so : (setup : Setup) (before : List Entry) (bytes : List ℕ) (cell : Cell) (word : ℕ) (end : JobEnd) →
-    WasRead setup before bytes cell word → end_of setup (Got bytes ∷ before) ≡ Some end →
+    WasRead setup before bytes cell word → last_job_end setup (Got bytes ∷ before) ≡ Some end →
     marks setup (Got bytes ∷ before) ≡ Good cell word ∷ marks setup before
 unfolding goods puts open_job
 marks-so setup before bytes cell word end was ended =
@@ -319,7 +321,7 @@ stands : CellsAreToldApart → LawsOfLives → (config : Config) (passes : ℕ) 
     (is : IsLife config passes (event ∷ before) (now config passes (event ∷ before)).host (now config passes (event ∷ before)).device) →
     (share_of (now config passes before) event).told ≡ Some (Got bytes) →
     WasRead (setup_of config passes) (life config passes before).entries bytes cell word →
-    end_of (setup_of config passes) (Got bytes ∷ (life config passes before).entries) ≡ Some end →
+    last_job_end (setup_of config passes) (Got bytes ∷ (life config passes before).entries) ≡ Some end →
     StandsRead config passes (event ∷ before) cell word
 unfolding restarted_since
 stands apart laws config passes before event bytes cell word end is told was ended =
@@ -346,7 +348,7 @@ order-says : CellsAreToldApart → TranscriptsAreFollowed → LawsOfLives →
     (is : IsLife config passes (event ∷ before) (now config passes (event ∷ before)).host (now config passes (event ∷ before)).device) →
     newest_tells (event ∷ before) ≡ true →
     last_job (life config passes (event ∷ before)).entries ≡ Some (Order cell word) →
-    end_of (setup_of config passes) (life config passes (event ∷ before)).entries ≡ Some end → word_in_end word end ≡ Some read →
+    last_job_end (setup_of config passes) (life config passes (event ∷ before)).entries ≡ Some end → word_in_end word end ≡ Some read →
     StandsRead config passes (event ∷ before) cell read
 order-says apart host laws config passes before event cell word end read is tells last ended says =
     go (told-by (now config passes before) event before tells is.lived.legal.0.free) where
@@ -364,9 +366,9 @@ order-says apart host laws config passes before event cell word end read is tell
           StandsRead config passes (event ∷ before) cell read
       go (wrote acked told) = absurd (order-wrote setup entries acked cell word end read
           (subst (λ e. last_job e ≡ Some (Order cell word)) (all (Finished acked) told) last)
-          (subst (λ e. end_of setup e ≡ Some end) (all (Finished acked) told) ended) says)
+          (subst (λ e. last_job_end setup e ≡ Some end) (all (Finished acked) told) ended) says)
       go (jobs_came bytes told) =
-          let over = subst (λ e. end_of setup e ≡ Some end) (all (Got bytes) told) ended in
+          let over = subst (λ e. last_job_end setup e ≡ Some end) (all (Got bytes) told) ended in
           stands apart laws config passes before event bytes cell read end is told
           (order-read host setup entries bytes cell word end read is.lived.made
           (subst (AreTold setup) (all (Got bytes) told) (laws.followed.told config passes (event ∷ before) is.lived))
@@ -378,7 +380,7 @@ check-says : CellsAreToldApart → TranscriptsAreFollowed → LawsOfLives →
     (is : IsLife config passes (event ∷ before) (now config passes (event ∷ before)).host (now config passes (event ∷ before)).device) →
     newest_tells (event ∷ before) ≡ true →
     last_job (life config passes (event ∷ before)).entries ≡ Some (Check cell) →
-    end_of (setup_of config passes) (life config passes (event ∷ before)).entries ≡ Some Done →
+    last_job_end (setup_of config passes) (life config passes (event ∷ before)).entries ≡ Some Done →
     (word : ℕ) × StandsRead config passes (event ∷ before) cell word
 check-says apart host laws config passes before event cell is tells last ended =
     go (told-by (now config passes before) event before tells is.lived.legal.0.free) where
@@ -396,9 +398,9 @@ check-says apart host laws config passes before event cell is tells last ended =
           (word : ℕ) × StandsRead config passes (event ∷ before) cell word
       go (wrote acked told) = absurd (check-wrote setup entries acked cell
           (subst (λ e. last_job e ≡ Some (Check cell)) (all (Finished acked) told) last)
-          (subst (λ e. end_of setup e ≡ Some Done) (all (Finished acked) told) ended))
+          (subst (λ e. last_job_end setup e ≡ Some Done) (all (Finished acked) told) ended))
       go (jobs_came bytes told) =
-          let over = subst (λ e. end_of setup e ≡ Some Done) (all (Got bytes) told) ended in
+          let over = subst (λ e. last_job_end setup e ≡ Some Done) (all (Got bytes) told) ended in
           let found = check-read host setup entries bytes cell is.lived.made
           (subst (AreTold setup) (all (Got bytes) told) (laws.followed.told config passes (event ∷ before) is.lived))
           (subst (λ e. last_job e ≡ Some (Check cell)) (all (Got bytes) told) last) over in
@@ -443,9 +445,9 @@ learn-says : TranscriptsAreFollowed → LawsOfLives →
     (is : IsLife config passes (event ∷ before) (now config passes (event ∷ before)).host (now config passes (event ∷ before)).device) →
     IsSpelled config → newest_tells (event ∷ before) ≡ true →
     last_job (life config passes (event ∷ before)).entries ≡ Some (Learn output) →
-    end_of (setup_of config passes) (life config passes (event ∷ before)).entries ≡ Some Learned →
+    last_job_end (setup_of config passes) (life config passes (event ∷ before)).entries ≡ Some Learned →
     IsSomeAnd (format_at (now config passes (event ∷ before)).host output) (λ shape. shape ≡ shape_for config output)
-unfolding end_of
+unfolding last_job_end
 learn-says host laws config passes before event output is spelled tells last ended =
     let entries = (life config passes (event ∷ before)).entries in
     let setup = setup_of config passes in
@@ -474,7 +476,7 @@ learn-says host laws config passes before event output is spelled tells last end
 
 -- the end of the last job is that of the transcript
 pub now-end : (config : Config) (passes : ℕ) (events : List Event) →
-    (now config passes events).end ≡ end_of (setup_of config passes) (life config passes events).entries
+    (now config passes events).end ≡ last_job_end (setup_of config passes) (life config passes events).entries
 unfolding now state_of
 now-end config passes events = refl
 
@@ -487,7 +489,7 @@ ends-are-true apart host laws config passes (event ∷ before) job end spelled l
       is = record { lived = lived; host_is = refl; held_is = record { same = refl; modes = refl } }
 
       go : (j : Job) (e : JobEnd) → last_job (life config passes (event ∷ before)).entries ≡ Some j →
-          end_of (setup_of config passes) (life config passes (event ∷ before)).entries ≡ Some e →
+          last_job_end (setup_of config passes) (life config passes (event ∷ before)).entries ≡ Some e →
           EndIsTrue config passes (event ∷ before) j e
       go (Order cell word) Done l so =
           let one = order-says apart host laws config passes before event cell word Done word is tells l so refl in
@@ -566,9 +568,10 @@ taken-open s (Mode output) payload = mode-open s output (mode_of (word_in payloa
 taken-open s (Coefficients output) payload = learned-open s output (result_ok (shape_in Direct (coefficients_of payload)))
 
 -- what an answered or unanswered question leaves open
-asked-open : (s : Summary) (question : Question) (tries : ℕ) (payload : Option (List ℕ)) → IsOpen (asked s question tries payload)
+asked-open : (s : Summary) (question : Question) (tries : ℕ) (payload : Option (List ℕ)) →
+    IsOpen (question_answered s question tries payload)
 asked-open s question tries None =
-    open-cond (eqb (tries + 1) s.setup.passes) (ends s Unknown) (goes_on s (Asks question (tries + 1))) (ended-open s Unknown) refl
+    open-cond (eqb (tries + 1) s.setup.passes) (ends s Unknown) (goes_on_at s (Asks question (tries + 1))) (ended-open s Unknown) refl
 asked-open s question tries (Some payload) = taken-open s question payload
 
 -- bytes came back
@@ -579,7 +582,8 @@ answered-open s (Asks question tries) bytes =
 answered-open s stage bytes = refl
 
 -- a call leaves the job open exactly if it doesn't end it
-pub still-busy : (s : Summary) (call : Call) → is_busy s ≡ true → still (step_of s (told_of call)) ≡ is_busy (host_next s (told_of call))
+pub still-busy : (s : Summary) (call : Call) → is_busy s ≡ true → still (step_of s (told_of_call call))
+    ≡ is_busy (host_next s (told_of_call call))
 unfolding host_next step_of
 still-busy s (Wrote frame acked) busy = go s.stage busy where
   go : (stage : Option Stage) → is_some stage ≡ true → IsOpen (summary_finished (idle s) stage acked)
@@ -591,13 +595,13 @@ still-busy s (Read request room came) busy = go s.stage busy where
   go (Some stage) b = answered-open (idle s) stage came
 
 -- one that doesn't end it leaves it open
-pub stays-open : (s : Summary) (call : Call) → is_busy s ≡ true → step_of s (told_of call) ≡ Next →
-    is_busy (host_next s (told_of call)) ≡ true
+pub stays-open : (s : Summary) (call : Call) → is_busy s ≡ true → step_of s (told_of_call call) ≡ Next →
+    is_busy (host_next s (told_of_call call)) ≡ true
 stays-open s call busy next = sym (still-busy s call busy) ∙ ap still next
 
 -- a frame that was sent leaves fewer
-pub spends : (s : Summary) (call : Call) → IsSound s → may_come s (told_of call) ≡ true →
-    frames_left (host_next s (told_of call)) < frames_left s
+pub spends : (s : Summary) (call : Call) → IsSound s → may_come s (told_of_call call) ≡ true →
+    frames_left (host_next s (told_of_call call)) < frames_left s
 unfolding host_next
 spends s (Wrote frame acked) sound may = go s.stage sound.stage may where
   go : (stage : Option Stage) → IsStage s stage → sends_write (record s { stage = stage }) ≡ true →
@@ -609,7 +613,7 @@ spends s (Read request room came) sound may = go s.stage sound.stage may where
   reads-back = search rules
 
   asks : (question : Question) (tries : ℕ) (payload : Option (List ℕ)) → tries < s.setup.passes →
-      frames_left (asked (idle s) question tries payload).after < frames_from s.setup.passes (Asks question tries)
+      frames_left (question_answered (idle s) question tries payload).after < frames_from s.setup.passes (Asks question tries)
   asks question tries None some = search rules
   asks (Word cell) tries (Some payload) some = search rules
   asks (Mode output) tries (Some payload) some = search rules
@@ -709,7 +713,7 @@ deliver-tells s frame arrival sends =
 -- while a write is being sent
 hear-one : LawsOfLives → {config : Config} {passes : ℕ} {host : Summary} (frame : List ℕ) → SendsWrite host frame →
     (earlier : List Event) (event : Event) (then : Held) → IsLife config passes earlier host then → may_hear frame event ≡ true →
-    Goes config passes earlier (event ∷ []) [] None host (held_by frame then event)
+    Goes config passes earlier (event ∷ []) [] None host (held_after_one frame then event)
 hear-one laws {config = config} {passes = passes} {host = host} frame sends earlier (Deliver arrival) then is so =
     let shown = of-life (λ h. SendsWrite h frame) is sends in
     let s = now config passes earlier in
@@ -841,7 +845,7 @@ hears-none frame (Deliver arrival) is = refl
 hears-none frame event is = cc
 
 -- what happens to a converter beside the bus asks for no job
-pub beside-none : (event : Event) → is_beside event ≡ true → asked_by event ≡ None
+pub beside-none : (event : Event) → is_beside_bus event ≡ true → asked_by event ≡ None
 beside-none RestartDevice is = refl
 beside-none (Reading output code word) is = refl
 beside-none event is = cc
@@ -866,7 +870,7 @@ hears-of-bus frame (Reading output code word) is = refl
 hears-of-bus frame (Deliver arrival) is = refl
 hears-of-bus frame event is = cc
 
-beside-of-bus : (event : Event) → is_beside event ≡ true → is_of_bus event ≡ true
+beside-of-bus : (event : Event) → is_beside_bus event ≡ true → is_of_bus event ≡ true
 beside-of-bus RestartDevice is = refl
 beside-of-bus (Reading output code word) is = refl
 beside-of-bus event is = cc
@@ -888,9 +892,9 @@ pub record CallEvents (call : Call) (host : Summary) (old : Held) (was : ℕ) (n
   pub count : restarts_in (newest ∷ older) + was ≡ is
   pub told : (config : Config) (passes : ℕ) (before : List Event) → IsLife config passes before host old →
       ((now config passes (older ++ before)).host ≡ host)
-      × ((share_of (now config passes (older ++ before)) newest).told ≡ Some (told_of call))
+      × ((share_of (now config passes (older ++ before)) newest).told ≡ Some (told_of_call call))
   pub goes : (config : Config) (passes : ℕ) (before : List Event) → IsLife config passes before host old →
-      Goes config passes before (newest ∷ older) (Called call ∷ []) (end_by (step_of host (told_of call))) (host_next host (told_of call)) new
+      Goes config passes before (newest ∷ older) (Called call ∷ []) (end_by (step_of host (told_of_call call))) (host_next host (told_of_call call)) new
 
 -- there are such
 pub call-events : LawsOfLives → (call : Call) (host : Summary) (old : Held) (was : ℕ) (new : Held) (count : ℕ) → MayDo host (Called call) →
@@ -920,17 +924,17 @@ call-events laws (Read request room came) host old was new count may is =
       older = is.before;
       tells_so = refl;
       alone = refl;
-      of_bus = all-so is_beside is_of_bus beside-of-bus is.before is.beside_before;
-      orders = none-asked is_beside beside-none is.before is.beside_before;
+      of_bus = all-so is_beside_bus is_of_bus beside-of-bus is.before is.beside_before;
+      orders = none-asked is_beside_bus beside-none is.before is.beside_before;
       count = (let rose = is.count in omega arith);
       told = λ config passes before life.
-          let beside = quiet request is_beside (beside-one laws request) is.before is.beside_before life in (
+          let beside = quiet request is_beside_bus (beside-one laws request) is.before is.beside_before life in (
             beside.is_life.host_is,
             ap (λ (w : Share). w.told) (answer-tells laws request room came is.arrival is.back sends beside.is_life
                 (record { returned = is.returned; came_is = is.came_is })),
           );
       goes = λ config passes before life.
-          let beside = quiet request is_beside (beside-one laws request) is.before is.beside_before life in
+          let beside = quiet request is_beside_bus (beside-one laws request) is.before is.beside_before life in
           goes-on beside (answered laws request room came is.arrival is.back sends beside.is_life is.legal
           (record { returned = is.returned; came_is = is.came_is }) is.after);
     }
@@ -947,7 +951,7 @@ frames-lead laws gives held restarts call host old new may is so =
       calls = (old, refl, so);
       may = (may, tt);
       host = refl;
-      newest = ends-told (end_by (step_of host (told_of call))) (e.newest ∷ e.older) e.tells_so;
+      newest = ends-told (end_by (step_of host (told_of_call call))) (e.newest ∷ e.older) e.tells_so;
       count = e.count;
       orders = e.orders;
       lives = e.goes;
@@ -957,17 +961,17 @@ frames-lead laws gives held restarts call host old new may is so =
 pub told-leads : {B : Type 0} (gives : B → Call → B → Type 0) (held : B → Held) (restarts : B → ℕ) → FramesLead gives held restarts →
     (call : Call) (host after : Summary) (step : Step) (old new : B) → MayDo host (Called call)
     → IsCalled call (held old) (restarts old) (held new) (restarts new) →
-    gives old call new → after ≡ host_next host (told_of call) → step ≡ step_of host (told_of call) →
+    gives old call new → after ≡ host_next host (told_of_call call) → step ≡ step_of host (told_of_call call) →
     Leads gives held restarts [] (end_by step) (record { host = host; bus = old }) (record { host = after; bus = new })
 told-leads gives held restarts lead call host after step old new may is so next_is step_is =
     subst (λ s. Leads gives held restarts [] (end_by s) (record { host = host; bus = old }) (record { host = after; bus = new }))
     (sym step_is)
-    (subst (λ h. Leads gives held restarts [] (end_by (step_of host (told_of call))) (record { host = host; bus = old })
+    (subst (λ h. Leads gives held restarts [] (end_by (step_of host (told_of_call call))) (record { host = host; bus = old })
     (record { host = h; bus = new })) (sym next_is) (lead call host old new may is so))
 
 -- a frame leaves the job open where it didn't end
-pub told-open : (call : Call) (host after : Summary) (step : Step) → is_busy host ≡ true → after ≡ host_next host (told_of call) →
-    step ≡ step_of host (told_of call) → StaysOpen (Some step) after
+pub told-open : (call : Call) (host after : Summary) (step : Step) → is_busy host ≡ true → after ≡ host_next host (told_of_call call) →
+    step ≡ step_of host (told_of_call call) → StaysOpen (Some step) after
 told-open call host after Next busy next_is step_is =
     subst (λ h. is_busy h ≡ true) (sym next_is) (stays-open host call busy (sym step_is))
 told-open call host after (Ended end) busy next_is step_is = tt
@@ -991,7 +995,7 @@ look-goes : LawsOfLives → (request room came : List ℕ) (host : Summary) (old
     (config : Config) (passes : ℕ) (before : List Event) → IsLife config passes before host old →
     Goes config passes before is.before (Looked request room came ∷ []) None host new
 look-goes laws request room came host old was new count plain is config passes before life =
-    let beside = quiet request is_beside (beside-one laws request) is.before is.beside_before life in
+    let beside = quiet request is_beside_bus (beside-one laws request) is.before is.beside_before life in
     let lived = beside.is_life in
     record {
       is_life = record {
@@ -1006,11 +1010,11 @@ look-goes laws request room came host old was new count plain is config passes b
 
 -- a reading changes no setting
 reading-kept : (held : Held) (output code word : ℕ) → kept_in (device_next held (device.Reading output code word)) ≡ kept_in held
-unfolding device_next after
+unfolding device_next after_outcome
 reading-kept held output code word = refl
 
 -- Events beside the bus without a restart move no setting either.
-beside-kept : (request : List ℕ) (held : Held) (events : List Event) → AreAll is_beside events → restarts_in events ≡ 0 →
+beside-kept : (request : List ℕ) (held : Held) (events : List Event) → AreAll is_beside_bus events → restarts_in events ≡ 0 →
     kept_in (held_after request held events) ≡ kept_in held
 beside-kept request held [] all none = refl
 beside-kept request held (RestartDevice ∷ events) all none = absurd (omega arith)
@@ -1023,7 +1027,7 @@ settings-so : LawsOfLives → (request room came : List ℕ) (host : Summary) (o
     IsNoWrite host.setup.addr request → IsAsked request (length room) old was came new count → HasLife host old → count ≡ was →
     kept_in new ≡ kept_in old
 settings-so laws request room came host old was new count plain is has same =
-    let beside = quiet request is_beside (beside-one laws request) is.before is.beside_before has.life in
+    let beside = quiet request is_beside_bus (beside-one laws request) is.before is.beside_before has.life in
     let rose = is.count in
     ap kept_in (look-latches laws request room came host old was new count plain is beside.is_life)
     ∙ beside-kept request old is.before is.beside_before (omega arith)
@@ -1040,7 +1044,7 @@ looks-lead laws gives held restarts request room came host old new may is so = r
   host = refl;
   newest = tt;
   count = is.count;
-  orders = none-asked is_beside beside-none is.before is.beside_before;
+  orders = none-asked is_beside_bus beside-none is.before is.beside_before;
   lives = look-goes laws request room came host (held old) (restarts old) (held new) (restarts new) may.1 is;
 }
 
@@ -1262,7 +1266,7 @@ runs-by law gives held restarts jobs compose asked end old new middle has free b
 
       read : (o : Option host.Job) →
           IsSomeAnd o (λ begun. Leads gives held restarts (Began begun ∷ []) (Some end) (driven old) (driven new)) →
-          IsSomeAnd o (λ begun. IfSome (cell_read begun end) (λ cell. HasNoRestartSince cell new.guard.host (held new.bus)))
+          IsSomeAnd o (λ begun. IfSome (cell_of_end begun end) (λ cell. HasNoRestartSince cell new.guard.host (held new.bus)))
       read None is = absurd is
       read (Some begun) is = leads-read law gives held restarts begun end (driven old) (driven new) has is
 

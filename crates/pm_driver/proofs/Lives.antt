@@ -17,13 +17,13 @@ use Rattle.pm_device.specs.{Laws.RequestsLatchAtMost, Reply.reply_of, declared.c
 use Rattle.pm_device.specs.{declared.output_start.OutputStart.OutputStart}
 use Rattle.pm_device.specs.Effect as device
 use Rattle.pm_device.specs.Held.{Held, shape_for, shape_made}
-use Rattle.pm_device.specs.History.{next as device_next, after, start_of}
+use Rattle.pm_device.specs.History.{device_next, after_outcome, start_of}
 use Rattle.pm_device.specs.Verdict.{unless_faulty, verdict_of, write_verdict}
 use Rattle.pm_device.specs.declared.converter.Ending.TheVariants.{Stop, Restart}
-use Rattle.pm_host.specs.{Jobs.accepted_job, Now.now as host_now, Possible.is_possible, Transcript.Entry, declared.job.Job.Job as Asked}
+use Rattle.pm_host.specs.{Jobs.accepted_job, Now.host_now, Possible.is_possible, Transcript.Entry, declared.job.Job.Job as Asked}
 use Rattle.pm_host.specs.{declared.job.JobEnd.JobEnd, declared.knowledge.Standing.TheVariants.Confirmed}
 use Rattle.pm_host.specs.Refusals.{is_busy, job_fault, IsSetup}
-use Rattle.pm_host.specs.Summary.{Summary, possible_at, standing_at, next as host_next, format_at, start}
+use Rattle.pm_host.specs.Summary.{Summary, possible_at, standing_at, host_next, format_at, start}
 use Rattle.pm_host.specs.Transcript as host
 use Rattle.pm_host.specs.declared.command.Command.TheVariants.{ClearFaults, StoreUserAll, RestoreUserAll}
 use Rattle.pm_host.specs.declared.job.JobEnd.TheVariants.{Differs, Done, Learned, Unknown}
@@ -40,15 +40,16 @@ use Rattle.pm_world.specs.declared.event.Arrival.TheVariants as arrival
 use Rattle.pm_world.specs.declared.event.Back.TheVariants as back
 use Rattle.pm_world.specs.declared.event.Event.TheVariants.{RestartDevice, Reading, Exchange, Finish, Check, Clear, Learn, Order}
 use Rattle.pm_world.specs.declared.event.Event.TheVariants.{RestartHost, Restore, Store, Deliver}
-use Rattle.pm_part_laws.specs.Lemmas.Pageless.{IsHeardPageless, after-same, first-bytes, settings-of}
+use Rattle.pm_part_laws.specs.Lemmas.Pageless.{IsHeardPageless, after-same, first-bytes, settings-of, answer_of}
 use Rattle.pm_part_laws.specs.Settings.{HaveSameSettings, modes_of, moved}
 use Rattle.pm_driver.specs.Lemmas.Restarts.{restarts-on}
-use Rattle.pm_driver.specs.Acts.{Act, told_all, told_by, AreCalls, AreDone, Began, Call, Called, Looked, MayDo, Renewed, asked_in, host_by}
+use Rattle.pm_driver.specs.Acts.{Act, told_all, told_by_act, AreCalls, AreDone, Began, Call, Called, Looked, MayDo, Renewed, asked_in}
+use Rattle.pm_driver.specs.Acts.{host_by}
 use Rattle.pm_driver.specs.Acts.{IsNoWrite, Read, Wrote}
-use Rattle.pm_driver.specs.Bus.{AreAll, held_after, held_by, is_beside, restarts_in, answer_of}
+use Rattle.pm_driver.specs.Bus.{AreAll, held_after, held_after_one, is_beside_bus, restarts_in}
 use Rattle.pm_driver.specs.Disturbed.{IsAskedPart, IsDisturbed, IsSentPart}
 use Rattle.pm_driver.specs.Driven.{HasLife, HasNoRestartSince, IsTrueOf, IsAsItIs, MayBegin, Driving, driven}
-use Rattle.pm_driver.specs.Ends.{EndSays, Stands, cell_read}
+use Rattle.pm_driver.specs.Ends.{EndSays, Stands, cell_of_end}
 use Rattle.pm_driver.specs.Laws.{LawsOfLives, LeadsCompose, EndsAreTrue, LivesLeadOn, NewConvertersMayBegin, RestartsAreCounted}
 use Rattle.pm_driver.specs.Lives.{EndsSo, Goes, IsLife, Driven, EndsTold, Leads, jobs_asked, jobs_begun, newest_tells, with_job}
 use Rattle.pm_driver.specs.Steps.{JobsLead, RenewalsLead}
@@ -129,7 +130,7 @@ told-append : (second first : List Act) (rest : List Entry) →
     told_all (second ++ first) ++ rest ≡ told_all second ++ (told_all first ++ rest)
 told-append [] first rest = refl
 told-append (act ∷ second) first rest =
-    let told = option_to_list (told_by act) in
+    let told = option_to_list (told_by_act act) in
     append_assoc told (told_all (second ++ first)) rest
     ∙ (ap (λ l. told ++ l) (told-append second first rest) ∙ sym (append_assoc told (told_all second) (told_all first ++ rest)))
 
@@ -152,7 +153,7 @@ goes-on {config = config} {passes = passes} {before = before} {first = first} {s
 -- events that each leave the host as it was
 pub quiet : {config : Config} {passes : ℕ} {before : List Event} {host : Summary} {held : Held} (frame : List ℕ) (may : Event → Bool) →
     ((earlier : List Event) (event : Event) (then : Held) → IsLife config passes earlier host then → may event ≡ true →
-    Goes config passes earlier (event ∷ []) [] None host (held_by frame then event)) →
+    Goes config passes earlier (event ∷ []) [] None host (held_after_one frame then event)) →
     (events : List Event) → AreAll may events → IsLife config passes before host held →
     Goes config passes before events [] None host (held_after frame held events)
 quiet frame may one [] all is = stays is
@@ -162,8 +163,8 @@ quiet {before = before} {held = held} frame may one (event ∷ earlier) (here, a
 
 -- what happens beside the bus is such an event
 pub beside-one : LawsOfLives → {config : Config} {passes : ℕ} {host : Summary} (frame : List ℕ) →
-    (earlier : List Event) (event : Event) (then : Held) → IsLife config passes earlier host then → is_beside event ≡ true →
-    Goes config passes earlier (event ∷ []) [] None host (held_by frame then event)
+    (earlier : List Event) (event : Event) (then : Held) → IsLife config passes earlier host then → is_beside_bus event ≡ true →
+    Goes config passes earlier (event ∷ []) [] None host (held_after_one frame then event)
 beside-one laws frame earlier RestartDevice then is so = heard-one (grown laws RestartDevice (hears device.Restarted) is refl tt refl tt)
 beside-one laws frame earlier (Reading output code word) then is so =
     heard-one (grown laws (Reading output code word) (hears (device.Reading output code.0 word)) is refl tt refl tt)
@@ -174,7 +175,7 @@ beside-one laws frame earlier event then is so = cc
 -- the host after acts and more of them
 host-append : (s : Summary) (second first : List Act) → host_by s (second ++ first) ≡ host_by (host_by s first) second
 host-append s [] first = refl
-host-append s (act ∷ second) first = ap (λ h. host_after h (told_by act)) (host-append s second first)
+host-append s (act ∷ second) first = ap (λ h. host_after h (told_by_act act)) (host-append s second first)
 
 -- what may be done may be done one after the other
 done-append : (s : Summary) (second first : List Act) → AreDone s first → AreDone (host_by s first) second →
@@ -322,10 +323,11 @@ shape-same one other same output =
 -- bytes that a stop ended, and that aren't a write
 refused-same : (held : Held) (bytes : List ℕ) → write_fault held.config.addr bytes ≢ None →
     IsSameButFaults (device_next held (device.Hearing bytes Stop)) held
-unfolding device_next after verdict_of
+unfolding device_next after_outcome verdict_of
 refused-same held bytes faulty = go (write_fault held.config.addr bytes) faulty where
   go : (fault : Option FrameFault) → fault ≢ None →
-      let new = after held (device.Heard (unless_faulty fault (write_verdict held.config held.words held.page (message_in bytes)))) in
+      let new =
+      after_outcome held (device.Heard (unless_faulty fault (write_verdict held.config held.words held.page (message_in bytes)))) in
       IsSameButFaults new held
   go None some = absurd (some refl)
   go (Some NotOurs) some = refl
@@ -733,14 +735,14 @@ leads-since gives held restarts acts end old new cell leads same is =
 pub leads-read : EndsAreTrue → {B : Type 0} (gives : B → Call → B → Type 0) (held : B → Held) (restarts : B → ℕ) (job : host.Job)
     (end : JobEnd) (old new : Driven B) →
     HasLife old.host (held old.bus) → Leads gives held restarts (Began job ∷ []) (Some end) old new →
-    IfSome (cell_read job end) (λ cell. HasNoRestartSince cell new.host (held new.bus))
+    IfSome (cell_of_end job end) (λ cell. HasNoRestartSince cell new.host (held new.bus))
 leads-read law gives held restarts job end old new has leads =
     let goes = leads.lives has.config has.passes has.events has.life in
     let is = goes.is_life in
     let events = leads.events ++ has.events in
     let last = ap host.last_job goes.told
     ∙ last-begun job [] leads.acts (life has.config has.passes has.events).entries leads.asks in
-    go (record { config = has.config; passes = has.passes; events = events; spelled = has.spelled; life = is }) (cell_read job end)
+    go (record { config = has.config; passes = has.passes; events = events; spelled = has.spelled; life = is }) (cell_of_end job end)
     (law has.config has.passes events job end has.spelled is.lived
     (tells-append leads.events has.events leads.newest) last goes.ended).read
   where

@@ -3,7 +3,7 @@ use Rattle.std.specs.Prelude.{get_or, slice_get}
 use Rattle.std.proofs.lemmas.Bool.{eq-eqb}
 use Rattle.std.proofs.Common.{◌≡◌, ℕ, Bool, true, List, [], ◌∷◌, ◌++◌, refl, sym, ◌∙◌, ap, subst, ◌+◌, ◌<◌, ◌≤◌, arith, zero, suc, length}
 use Rattle.std.proofs.Common.{replicate, cond, Some, take, eqb, inl, inr}
-use Rattle.pm_device.specs.{Held.Held, History.next as device_next, declared.converter.Ending.TheVariants.Restart}
+use Rattle.pm_device.specs.{Held.Held, History.device_next, declared.converter.Ending.TheVariants.Restart}
 use Rattle.pm_device.specs.Effect as device
 use Rattle.pm_world.specs.declared.event.Event.{Event}
 use Rattle.pm_world.specs.Legal.{back_bytes, ending_of, heard_bytes, is_heard_whole, is_legal_return}
@@ -11,13 +11,14 @@ use Rattle.pm_world.specs.declared.event.Event.TheVariants.{Reading, RestartDevi
 use Rattle.pm_driver.specs.{Adapter.IsUnheard, Lemmas.Restarts.restarts-on, declared.buses.fault.Fault.Fault}
 use Rattle.pm_driver.specs.{declared.buses.simulated_bus.SimulatedBus.SimulatedBus}
 use Rattle.pm_driver.specs.Acts.{Read, Wrote}
-use Rattle.pm_driver.specs.Bus.{AreAll, IsAsked, IsSent, answer_of, held_after, held_by, is_beside, may_hear}
+use Rattle.pm_driver.specs.Bus.{AreAll, IsAsked, IsSent, held_after, held_after_one, is_beside_bus, may_hear}
 use Rattle.pm_driver.specs.Disturbed.{IsSentPart, PartsCompose, RequestsMayBeLost, IsDisturbed}
 use Rattle.pm_driver.specs.NeverRestarts.{NeverRestartsStays, PatientNeverRestartsStays, ReadsKeepNeverRestarts, patient_device}
 use Rattle.pm_driver.specs.NeverRestarts.{patient_gives, patient_restarts}
 use Rattle.pm_driver.specs.Patience.{asks_patiently, sends_patiently}
 use Rattle.pm_driver.specs.Plan.{restarts_of, TurnsTo, device_in, gives_so, restarts_so, tries_so}
 use Rattle.pm_driver.specs.WithoutRestart.{AreWithoutRestart, JobsRestartNothing, ReadsRestartNothing}
+use Rattle.pm_part_laws.specs.Lemmas.Pageless.{answer_of}
 
 -- What happens to a converter, in parts.
 
@@ -25,7 +26,7 @@ use Rattle.pm_driver.specs.WithoutRestart.{AreWithoutRestart, JobsRestartNothing
 pub held-append : (frame : List ℕ) (held : Held) (second first : List Event) →
     held_after frame held (second ++ first) ≡ held_after frame (held_after frame held first) second
 held-append frame held [] first = refl
-held-append frame held (event ∷ second) first = ap (λ h. held_by frame h event) (held-append frame held second first)
+held-append frame held (event ∷ second) first = ap (λ h. held_after_one frame h event) (held-append frame held second first)
 
 pub all-append : (may : Event → Bool) (second first : List Event) → AreAll may second → AreAll may first →
     AreAll may (second ++ first)
@@ -33,7 +34,7 @@ all-append may [] first all earlier = earlier
 all-append may (event ∷ second) first all earlier = (all.0, all-append may second first all.1 earlier)
 
 -- what happens beside the bus may happen while a write is being sent
-pub beside-may : (frame : List ℕ) (events : List Event) → AreAll is_beside events → AreAll (may_hear frame) events
+pub beside-may : (frame : List ℕ) (events : List Event) → AreAll is_beside_bus events → AreAll (may_hear frame) events
 beside-may frame [] all = tt
 beside-may frame (RestartDevice ∷ events) all = (refl, beside-may frame events all.1)
 beside-may frame (Reading output code word ∷ events) all = (refl, beside-may frame events all.1)
@@ -70,7 +71,7 @@ before-read request needed came first a second b third c one is =
       before = is.before ++ one.events;
       arrival = is.arrival;
       back = is.back;
-      beside_before = all-append is_beside is.before one.events is.beside_before one.beside;
+      beside_before = all-append is_beside_bus is.before one.events is.beside_before one.beside;
       legal = is.legal;
       returned = subst (λ h. is_legal_return request needed
           (is_heard_whole request (heard_bytes request is.arrival) (ending_of Restart is.arrival))
@@ -87,7 +88,7 @@ parts-compose lost = record {
   sent = sent-parts;
   unheard = λ first a second b third c one two. record {
     events = two.events ++ one.events;
-    beside = all-append is_beside two.events one.events two.beside one.beside;
+    beside = all-append is_beside_bus two.events one.events two.beside one.beside;
     after = λ frame. held-append frame first two.events one.events
         ∙ (ap (λ h. held_after frame h two.events) (one.after frame) ∙ two.after frame);
     count = restarts-on two.events one.events a b c one.count two.count;

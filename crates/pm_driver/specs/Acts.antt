@@ -27,24 +27,24 @@ pub data Act : Type 0 where
   Looked : (request : List ℕ) (room : List ℕ) (came : List ℕ) → Act
 
 -- what the host is told by a call, and by an act: nothing of a read that is no job
-abbrev pub told_of : Call → Entry
-told_of (Wrote frame acked) = Finished acked
-told_of (Read request room came) = Got came
+abbrev pub told_of_call : Call → Entry
+told_of_call (Wrote frame acked) = Finished acked
+told_of_call (Read request room came) = Got came
 
-abbrev pub told_by : Act → Option Entry
-told_by (Called call) = Some (told_of call)
-told_by (Began job) = Some (Accepted job)
-told_by Renewed = Some Restarted
-told_by (Looked request room came) = None
+abbrev pub told_by_act : Act → Option Entry
+told_by_act (Called call) = Some (told_of_call call)
+told_by_act (Began job) = Some (Accepted job)
+told_by_act Renewed = Some Restarted
+told_by_act (Looked request room came) = None
 
 abbrev pub told_all : List Act → List Entry
 told_all [] = []
-told_all (act ∷ before) = option_to_list (told_by act) ++ told_all before
+told_all (act ∷ before) = option_to_list (told_by_act act) ++ told_all before
 
 -- what the host holds after acts
 abbrev pub host_by : Summary → List Act → Summary
 host_by s [] = s
-host_by s (act ∷ before) = host_after (host_by s before) (told_by act)
+host_by s (act ∷ before) = host_after (host_by s before) (told_by_act act)
 
 -- No beginning of these bytes is a write to this address: wherever a stop cuts them off, the converter takes nothing.
 pub record IsNoWrite (addr : ℕ) (bytes : List ℕ) : Type 0 where

@@ -2,7 +2,7 @@
 use Rattle.std.specs.Prelude.{◌≡◌, ◌+◌, ℕ, List, take}
 use Rattle.pm_device.specs.Held.{Held}
 use Rattle.pm_world.specs.declared.event.Event.{Event}
-use Rattle.pm_driver.specs.Bus.{AreAll, IsAsked, IsSent, held_after, is_beside, restarts_in}
+use Rattle.pm_driver.specs.Bus.{AreAll, IsAsked, IsSent, held_after, is_beside_bus, restarts_in}
 use Rattle.pm_driver.specs.declared.adapter.WriteEnd.{WriteEnd}
 use Rattle.pm_driver.specs.declared.adapter.WriteEnd.TheVariants as write
 use Rattle.pm_driver.specs.declared.adapter.ReadEnd.{ReadEnd}
@@ -12,7 +12,7 @@ use Rattle.pm_driver.specs.declared.adapter.ReadEnd.TheVariants as read
 -- rose by just those that happened.
 pub record IsUnheard (old : Held) (was : ℕ) (new : Held) (is : ℕ) : Type 0 where
   pub events : List Event
-  pub beside : AreAll is_beside events
+  pub beside : AreAll is_beside_bus events
   pub after : (frame : List ℕ) → held_after frame old events ≡ new
   pub count : restarts_in events + was ≡ is
 

@@ -4,7 +4,7 @@ use Rattle.std.specs.Prelude.{◌≡◌, ◌+◌, ℕ, Bool, true, false, cond, 
 use Rattle.pm_device.specs.declared.converter.Ending.TheVariants.{Stop, Restart}
 use Rattle.pm_device.specs.Held.{Held}
 use Rattle.pm_device.specs.Effect as device
-use Rattle.pm_device.specs.History.{next as device_next}
+use Rattle.pm_device.specs.History.{device_next}
 use Rattle.pm_device.specs.Reply.{reply_of}
 use Rattle.pm_world.specs.declared.event.Arrival.{Arrival}
 use Rattle.pm_world.specs.declared.event.Back.{Back}
@@ -12,12 +12,13 @@ use Rattle.pm_world.specs.declared.event.Event.{Event}
 use Rattle.pm_world.specs.declared.event.Event.TheVariants.{Deliver, RestartDevice, Reading}
 use Rattle.pm_world.specs.Confirmed.{restarts_converter}
 use Rattle.pm_world.specs.Legal.{heard_bytes, ending_of, is_legal_hearing, is_legal_return, is_heard_whole, answer_in, back_bytes}
+use Rattle.pm_part_laws.specs.Lemmas.Pageless.{answer_of}
 
 -- what happens to a converter beside the bus: it restarts, or what it measures changes
-abbrev pub is_beside : Event → Bool
-is_beside RestartDevice = true
-is_beside (Reading output code word) = true
-is_beside _ = false
+abbrev pub is_beside_bus : Event → Bool
+is_beside_bus RestartDevice = true
+is_beside_bus (Reading output code word) = true
+is_beside_bus _ = false
 
 -- what happens to a converter while the frame of a write is being sent: what happens beside the bus, and it hears the frame, legally
 abbrev pub may_hear : List ℕ → Event → Bool
@@ -32,17 +33,17 @@ AreAll may [] = Unit {0}
 AreAll may (event ∷ before) = (may event ≡ true) × AreAll may before
 
 -- what one of them makes of what the converter holds
-abbrev pub held_by : List ℕ → Held → Event → Held
-held_by frame held RestartDevice = device_next held device.Restarted
-held_by frame held (Reading output code word) = device_next held (device.Reading output code.0 word)
-held_by frame held (Deliver arrival) =
+abbrev pub held_after_one : List ℕ → Held → Event → Held
+held_after_one frame held RestartDevice = device_next held device.Restarted
+held_after_one frame held (Reading output code word) = device_next held (device.Reading output code.0 word)
+held_after_one frame held (Deliver arrival) =
     device_next held (device.Hearing (heard_bytes frame arrival) (ending_of Stop arrival))
-held_by frame held _ = held
+held_after_one frame held _ = held
 
 -- what a list of events makes of the converter while the frame of a write is being sent
 abbrev pub held_after : List ℕ → Held → List Event → Held
 held_after frame held [] = held
-held_after frame held (event ∷ before) = held_by frame (held_after frame held before) event
+held_after frame held (event ∷ before) = held_after_one frame (held_after frame held before) event
 
 -- how often the converter restarted by these events
 abbrev pub restarts_in : List Event → ℕ
@@ -57,18 +58,13 @@ pub record IsSent (frame : List ℕ) (old : Held) (was : ℕ) (new : Held) (is :
   pub after : held_after frame old events ≡ new
   pub count : restarts_in events + was ≡ is
 
--- the answer of a converter to a request as it arrives
-abbrev pub answer_of : Held → List ℕ → Arrival → List ℕ
-answer_of held request arrival =
-    answer_in (reply_of held (heard_bytes request arrival) (ending_of Restart arrival))
-
 -- A request was sent, whose whole answer has this many bytes, and these came back: the converter heard it once,
 -- legally, and what came back is a legal return of its answer. A count of its restarts rose by just those that happened.
 pub record IsAsked (request : List ℕ) (needed : ℕ) (old : Held) (was : ℕ) (came : List ℕ) (new : Held) (is : ℕ) : Type 0 where
   pub before : List Event
   pub arrival : Arrival
   pub back : Back
-  pub beside_before : AreAll is_beside before
+  pub beside_before : AreAll is_beside_bus before
   pub legal : is_legal_hearing request (heard_bytes request arrival) (ending_of Restart arrival) ≡ true
   pub returned : is_legal_return request needed
       (is_heard_whole request (heard_bytes request arrival) (ending_of Restart arrival))

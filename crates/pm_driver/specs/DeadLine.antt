@@ -1,7 +1,7 @@
 -- A line that is cut: this project's own choice.
 use Rattle.std.specs.Prelude.{◌≡◌, false, []}
 use Rattle.pm_device.specs.Held.{Held}
-use Rattle.pm_device.specs.History.{next as device_next}
+use Rattle.pm_device.specs.History.{device_next}
 use Rattle.pm_device.specs.Effect.{Hearing}
 use Rattle.pm_device.specs.declared.converter.Ending.TheVariants.{Stop}
 use Rattle.pm_driver.specs.Acts.{Call, Wrote, Read}

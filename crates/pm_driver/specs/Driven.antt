@@ -23,7 +23,7 @@ use Rattle.pm_world.specs.Honest.{IsSpelled}
 use Rattle.pm_world.specs.Parts.{IsPart}
 use Rattle.pm_world.specs.Setup.{setup_of}
 use Rattle.pm_driver.specs.Acts.{Began, Call}
-use Rattle.pm_driver.specs.Ends.{EndSays, cell_read}
+use Rattle.pm_driver.specs.Ends.{EndSays, cell_of_end}
 use Rattle.pm_driver.specs.Lives.{Driven, IsLife, Leads}
 
 -- a driver: its host with its limits, and its bus
@@ -72,7 +72,7 @@ pub record Runs {B : Type 0} (gives : B → Call → B → Type 0) (held : B →
   pub says : IfOk result (λ end. IsSomeAnd (accepted_job old.guard.host job)
       (λ begun. EndSays begun new.guard.host (held new.bus) end))
   pub read : IfOk result (λ end. IsSomeAnd (accepted_job old.guard.host job)
-      (λ begun. IfSome (cell_read begun end) (λ cell. HasNoRestartSince cell new.guard.host (held new.bus))))
+      (λ begun. IfSome (cell_of_end begun end) (λ cell. HasNoRestartSince cell new.guard.host (held new.bus))))
   pub over : OnOk result (frames_left new.guard.host ≡ 0)
   pub err : OnErr result (new ≡ old)
   pub limits : new.guard.limits ≡ old.guard.limits

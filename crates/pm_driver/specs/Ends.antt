@@ -25,8 +25,8 @@ EndSays (Learn output) host held Learned =
 EndSays job host held end = Unit {0}
 
 -- the cell whose word an end tells, by the good answer with which the job ended
-abbrev pub cell_read : Job → JobEnd → Option Cell
-cell_read (Order cell word) Done = Some cell
-cell_read (Order cell word) (Differs read) = Some cell
-cell_read (Check cell) Done = Some cell
-cell_read job end = None
+abbrev pub cell_of_end : Job → JobEnd → Option Cell
+cell_of_end (Order cell word) Done = Some cell
+cell_of_end (Order cell word) (Differs read) = Some cell
+cell_of_end (Check cell) Done = Some cell
+cell_of_end job end = None

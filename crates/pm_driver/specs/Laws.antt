@@ -21,7 +21,7 @@ use Rattle.pm_world.specs.Lived.{IsLived}
 use Rattle.pm_world.specs.Setup.{setup_of}
 use Rattle.pm_driver.specs.Acts.{Act, Call}
 use Rattle.pm_driver.specs.Driven.{HasLife, HasNoRestartSince, IsAsItIs, MayBegin}
-use Rattle.pm_driver.specs.Ends.{EndSays, cell_read}
+use Rattle.pm_driver.specs.Ends.{EndSays, cell_of_end}
 use Rattle.pm_driver.specs.Lives.{Driven, Leads, newest_tells}
 
 -- the laws of lives, of frames and of hearings that a driver keeps its promises by
@@ -57,7 +57,7 @@ RestartsAreCounted {B = B} gives held restarts = (acts : List Act) (end : Option
 -- an end is worth what it says, and the converter didn't restart since the cell was read whose word it tells
 pub record EndIsTrue (config : Config) (passes : ℕ) (events : List Event) (job : Job) (end : JobEnd) : Type 0 where
   pub says : EndSays job (now config passes events).host (now config passes events).device end
-  pub read : IfSome (cell_read job end) (λ cell. restarted_since config passes cell events ≡ false)
+  pub read : IfSome (cell_of_end job end) (λ cell. restarted_since config passes cell events ≡ false)
 
 -- In every life whose newest event is one that the host was told of, the end of the last job says what it is worth.
 abbrev pub EndsAreTrue : Type 0

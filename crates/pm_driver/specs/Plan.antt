@@ -3,7 +3,7 @@ use Rattle.std.specs.Prelude.{◌≡◌, ◌+◌, ℕ, Bool, true, false, not, �
 use Rattle.pm_device.specs.declared.converter.Ending.TheVariants.{Stop, Restart}
 use Rattle.pm_device.specs.Effect as device
 use Rattle.pm_device.specs.Held.{Held}
-use Rattle.pm_device.specs.History.{next as device_next}
+use Rattle.pm_device.specs.History.{device_next}
 use Rattle.pm_world.specs.declared.event.Arrival.{Arrival}
 use Rattle.pm_world.specs.declared.event.Arrival.TheVariants as arrival
 use Rattle.pm_world.specs.declared.event.Back.{Back}
@@ -15,9 +15,9 @@ use Rattle.pm_driver.specs.declared.adapter.ReadEnd.{ReadEnd}
 use Rattle.pm_driver.specs.declared.adapter.ReadEnd.TheVariants as read
 use Rattle.pm_driver.specs.Acts.{Call, Wrote, Read}
 use Rattle.pm_driver.specs.Adapter.{Asks, Sends, Try}
-use Rattle.pm_driver.specs.Bus.{answer_of}
 use Rattle.pm_driver.specs.declared.buses.fault.Fault.{Fault}
 use Rattle.pm_driver.specs.declared.buses.simulated_bus.SimulatedBus.{SimulatedBus}
+use Rattle.pm_part_laws.specs.Lemmas.Pageless.{answer_of}
 
 -- how often the converter restarts by faults
 abbrev pub restarts_of : List Fault → ℕ
@@ -29,18 +29,18 @@ abbrev pub disturbed : Held → Bool → Held
 disturbed held restarts = if restarts then device_next held device.Restarted else held
 
 -- after a packet as it arrives, which is lost where that isn't legal
-abbrev pub delivered : List ℕ → Held → Arrival → Held
-delivered frame held way =
+abbrev pub held_after_packet : List ℕ → Held → Arrival → Held
+held_after_packet frame held way =
     if is_legal_hearing frame (heard_bytes frame way) (ending_of Stop way)
     then device_next held (device.Hearing (heard_bytes frame way) (ending_of Stop way)) else held
 
 abbrev pub delivered_some : List ℕ → Held → Option Arrival → Held
 delivered_some frame held None = held
-delivered_some frame held (Some way) = delivered frame held way
+delivered_some frame held (Some way) = held_after_packet frame held way
 
 -- after a request as it arrives, and what comes back: nothing where that isn't legal or is longer than a whole answer
-abbrev pub asked : List ℕ → Held → Arrival → Held
-asked request held way =
+abbrev pub held_after_request : List ℕ → Held → Arrival → Held
+held_after_request request held way =
     if is_legal_hearing request (heard_bytes request way) (ending_of Restart way)
     then device_next held (device.Hearing (heard_bytes request way) (ending_of Restart way))
     else device_next held (device.Hearing [] Stop)
@@ -65,9 +65,9 @@ write_end None = write.Acknowledged
 write_end (Some fault) =
     if fault.unheard then write.Unheard else (if fault.acked then write.Acknowledged else write.Failed)
 
-abbrev pub sent_by : Option Fault → List ℕ → Held → Held
-sent_by None frame held = delivered frame held arrival.Whole
-sent_by (Some fault) frame held =
+abbrev pub held_after_packet_by : Option Fault → List ℕ → Held → Held
+held_after_packet_by None frame held = held_after_packet frame held arrival.Whole
+held_after_packet_by (Some fault) frame held =
     if fault.unheard then held else delivered_some frame (delivered_some frame held fault.heard) fault.repeated
 
 -- which bytes come back for a request, what comes of that, and the converter after it
@@ -86,9 +86,9 @@ came_end count = if count == 0 then read.Failed else read.Came count
 abbrev pub read_end : Option Fault → List ℕ → ReadEnd
 read_end fault came = if is_unheard fault then read.Unheard else came_end (length came)
 
-abbrev pub asked_by : Option Fault → List ℕ → Held → Held
-asked_by None request held = asked request held arrival.Whole
-asked_by (Some fault) request held = if fault.unheard then held else asked request held fault.request
+abbrev pub held_after_request_by : Option Fault → List ℕ → Held → Held
+held_after_request_by None request held = held_after_request request held arrival.Whole
+held_after_request_by (Some fault) request held = if fault.unheard then held else held_after_request request held fault.request
 
 -- every byte was acknowledged
 abbrev pub is_acknowledged : WriteEnd → Bool
@@ -99,16 +99,16 @@ is_acknowledged write.Acknowledged = true
 -- what a call does to the converter, and what it answers, by the fault for its frame
 abbrev pub gives_by : Option Fault → Held → Call → Held → Type 0
 gives_by fault old (Wrote frame acked) new =
-    (acked ≡ is_acknowledged (write_end fault)) × (new ≡ sent_by fault frame (turned_by fault old))
+    (acked ≡ is_acknowledged (write_end fault)) × (new ≡ held_after_packet_by fault frame (turned_by fault old))
 gives_by fault old (Read request room came) new =
-    (came ≡ came_by fault request (length room) (turned_by fault old)) × (new ≡ asked_by fault request (turned_by fault old))
+    (came ≡ came_by fault request (length room) (turned_by fault old)) × (new ≡ held_after_request_by fault request (turned_by fault old))
 
 -- what a try does to the converter, and how it ends, by the fault for its frame
 abbrev pub tries_by : Option Fault → Held → Try → Held → Type 0
-tries_by fault old (Sends frame end) new = (end ≡ write_end fault) × (new ≡ sent_by fault frame (turned_by fault old))
+tries_by fault old (Sends frame end) new = (end ≡ write_end fault) × (new ≡ held_after_packet_by fault frame (turned_by fault old))
 tries_by fault old (Asks request room end came) new =
     (came ≡ came_by fault request (length room) (turned_by fault old))
-    × (end ≡ read_end fault came) × (new ≡ asked_by fault request (turned_by fault old))
+    × (end ≡ read_end fault came) × (new ≡ held_after_request_by fault request (turned_by fault old))
 
 -- the fault of the frame to come
 abbrev pub fault_next : SimulatedBus → Option Fault

@@ -5,17 +5,17 @@ use Rattle.pm_host.specs.declared.job.JobEnd.{JobEnd}
 use Rattle.pm_host.specs.declared.host.Step.{Step}
 use Rattle.pm_host.specs.declared.host.Step.TheVariants.{Next}
 use Rattle.pm_host.specs.Refusals.{is_busy, job_fault}
-use Rattle.pm_host.specs.Summary.{Summary, next as host_next, step_of}
+use Rattle.pm_host.specs.Summary.{Summary, host_next, step_of}
 use Rattle.pm_host.specs.Transcript.{Job, Accepted, Restarted}
 use Rattle.pm_world.specs.State.{end_by}
-use Rattle.pm_driver.specs.Acts.{Began, Call, Called, Looked, MayDo, Read, Renewed, Wrote, told_of}
+use Rattle.pm_driver.specs.Acts.{Began, Call, Called, Looked, MayDo, Read, Renewed, Wrote, told_of_call}
 use Rattle.pm_driver.specs.Bus.{IsSent, IsAsked}
 use Rattle.pm_driver.specs.Lives.{Leads}
 
 -- how the job ended with a step
-abbrev pub end_in : Option Step → Option JobEnd
-end_in None = None
-end_in (Some step) = end_by step
+abbrev pub end_in_step : Option Step → Option JobEnd
+end_in_step None = None
+end_in_step (Some step) = end_by step
 
 -- a job is open after a step that doesn't end it
 abbrev pub StaysOpen : Option Step → Summary → Type 0
@@ -31,8 +31,8 @@ IsCalled (Read request room came) old was new is = IsAsked request (length room)
 abbrev pub FramesLead : {B : Type 0} → (B → Call → B → Type 0) → (B → Held) → (B → ℕ) → Type 0
 FramesLead {B = B} gives held restarts = (call : Call) (host : Summary) (old new : B) →
     MayDo host (Called call) → IsCalled call (held old) (restarts old) (held new) (restarts new) → gives old call new →
-    Leads gives held restarts [] (end_by (step_of host (told_of call)))
-    (record { host = host; bus = old }) (record { host = host_next host (told_of call); bus = new })
+    Leads gives held restarts [] (end_by (step_of host (told_of_call call)))
+    (record { host = host; bus = old }) (record { host = host_next host (told_of_call call); bus = new })
 
 -- A read that is no job leads on, while no job is open and where no beginning of its request is a write.
 abbrev pub LooksLead : {B : Type 0} → (B → Call → B → Type 0) → (B → Held) → (B → ℕ) → Type 0

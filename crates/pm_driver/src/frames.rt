@@ -6,7 +6,7 @@ ghost use Rattle.pm_host.specs.Refusals.{is_busy};
 ghost use Rattle.pm_host.specs.Told.{OnEnded};
 ghost use Rattle.pm_driver.specs.Courses.{Carries, KeepsTo, RunsCourse};
 ghost use Rattle.pm_driver.specs.Lives.{Leads};
-ghost use Rattle.pm_driver.specs.Steps.{end_in, StaysOpen};
+ghost use Rattle.pm_driver.specs.Steps.{end_in_step, StaysOpen};
 
 use crate::bus::Bus;
 use crate::laws::{frames_lead, laws_of_lives, leads_compose};
@@ -41,7 +41,7 @@ pub fn carry_out<B: Bus>(guard: &mut Guard, bus: &mut B) -> Option<JobEnd>
 
 // Sends one frame, and lets the host hear what came of it; `None` if no job is open.
 fn send<B: Bus>(guard: &mut Guard, bus: &mut B) -> Option<Step>
-    ensures leads { Leads B.gives B.held B.restarts [] (end_in result)
+    ensures leads { Leads B.gives B.held B.restarts [] (end_in_step result)
         (record { host = guard.old.host; bus = bus.old }) (record { host = guard.new.host; bus = bus.new }) }
     ensures some { is_some result ≡ is_busy guard.old.host }
     ensures open { StaysOpen result guard.new.host }

@@ -30,21 +30,25 @@ use Rattle.pm_host.specs.Frames.{CanSend, writes_output, writes_protect, reads_o
 use Rattle.pm_host.specs.Frames.{sends_command as frames_sends_command, frames_of, frames_from, frames_left}
 use Rattle.pm_host.specs.Known.{known_more, Known, known_possible, known_standing, all_any, all_unknown, nothing_known, known_after}
 use Rattle.pm_host.specs.Known.{known_now, HasPlaces}
-use Rattle.pm_host.specs.Lemmas.{possible_of-put_other, all_any-length, reads_cell, reads_question, writes_cell}
+use Rattle.pm_host.specs.Lemmas.{possible_of-put_other, all_any-length, cell_read_is_request, reads_question, writes_cell}
 use Rattle.pm_host.specs.Marks.{Mark, Good, put_by, read_by, Put, Restored, Restart, marks, puts, goods}
 use Rattle.pm_host.specs.Messages.{cell_read, mode_read, coefficients_read, cell_write, command_message}
-use Rattle.pm_host.specs.Now.{job_stage, now, stage_of, AreTold}
+use Rattle.pm_host.specs.Now.{job_stage, host_now, stage_of, AreTold}
 use Rattle.pm_host.specs.Possible.{is_listed, once, is_possible, possible_from, words_since, possible_of, restart_seen_of, only, joined}
 use Rattle.pm_host.specs.Question.{question_message, IsQuestion}
 use Rattle.pm_host.specs.Refusals.{IsSetup, may_come, is_busy, sends_read, sends_write}
 use Rattle.pm_host.specs.Sound.{IsOrdering, IsStage, IsSound}
-use Rattle.pm_host.specs.Summary.{Summary, Change, stage_message, step_by, begins, finished, answered, change, idle, start, no_formats}
-use Rattle.pm_host.specs.Summary.{format_at, read_back, asked, sending_in, marked, another, learned, mode_taken, read_another, answer_taken}
-use Rattle.pm_host.specs.Summary.{next, step_of}
+use Rattle.pm_host.specs.Summary.{Summary, Change, stage_message, step_by, begins, finished, request_answered, change, idle, start}
+use Rattle.pm_host.specs.Summary.{no_formats}
+use Rattle.pm_host.specs.Summary.{format_at, read_back, question_answered, sending_in, marked, another, learned, mode_taken, read_another}
+use Rattle.pm_host.specs.Summary.{answer_taken}
+use Rattle.pm_host.specs.Summary.{host_next, step_of}
 use Rattle.pm_host.specs.Told.{entry_told, is_of_frame}
 use Rattle.pm_host.specs.Transcript.{Setup, Job, Order, Check, Learn, Send, Entry, Accepted, Finished, Got, Restarted, is_write_turn}
-use Rattle.pm_host.specs.Transcript.{order_end, check_end, send_end, learn_end, job_end, mode_told, coefficients_told, coefficients_tries}
-use Rattle.pm_host.specs.Transcript.{found, last_job, told_since, end_of, open_job, found_for, format_of_output, sending_of, job_message}
+use Rattle.pm_host.specs.Transcript.{order_end, check_end, send_end, learn_end, job_end, vout_mode_told, coefficients_told}
+use Rattle.pm_host.specs.Transcript.{coefficients_tries}
+use Rattle.pm_host.specs.Transcript.{found, last_job, told_since, last_job_end, open_job, found_for, format_of_output, sending_of}
+use Rattle.pm_host.specs.Transcript.{job_message}
 use Rattle.pm_host.specs.declared.knowledge.Possible.TheVariants.{Any, Words}
 use Rattle.pm_host.specs.declared.knowledge.Standing.TheVariants as standing
 use Rattle.pm_host.specs.declared.knowledge.Standing.TheVariants.{Confirmed, Unknown}
@@ -170,7 +174,7 @@ FinishedFollows s job told acked = finished s (stage_by s.setup job told) acked 
 
 -- what the summary makes of an answer is what the look back says
 abbrev pub GotFollows : Summary → Option Job → List Entry → List ℕ → Type 0
-GotFollows s job told bytes = answered s (stage_by s.setup job told) bytes ≡ got_change s job told bytes
+GotFollows s job told bytes = request_answered s (stage_by s.setup job told) bytes ≡ got_change s job told bytes
 
 -- a write was sent, of any job
 pub finished_follows : (s : Summary) (job : Option Job) (told : List Entry) (acked : Bool) → WritesBy s.setup job told
@@ -227,12 +231,12 @@ check_read : {s : Summary} {cell : Cell} {told : List Entry} {bytes : List ℕ} 
 check_read = search rules
 
 -- coefficients are read only after a mode
-no_coefficients : (setup : Setup) (output : ℕ) (told : List Entry) → mode_told setup output told ≡ None
+no_coefficients : (setup : Setup) (output : ℕ) (told : List Entry) → vout_mode_told setup output told ≡ None
     → coefficients_told setup output told ≡ None
 no_coefficients setup output [] none = refl
 no_coefficients setup output (Got bytes ∷ told) none =
-    let before : mode_told setup output told ≡ None =
-    (or-none (mode_told setup output told) (good_mode setup.addr output bytes) none).0 in
+    let before : vout_mode_told setup output told ≡ None =
+    (or-none (vout_mode_told setup output told) (good_mode setup.addr output bytes) none).0 in
     rw (no_coefficients setup output told before, before) refl
 no_coefficients setup output (Finished acked ∷ told) none = no_coefficients setup output told none
 no_coefficients setup output (Accepted job ∷ told) none = no_coefficients setup output told none
@@ -240,13 +244,13 @@ no_coefficients setup output (Restarted ∷ told) none = no_coefficients setup o
 
 -- a learn has told the mode in this byte, and is open
 record ModeIsKnown (setup : Setup) (output : ℕ) (told : List Entry) (byte : ℕ) : Type 0 where
-  mode : mode_told setup output told ≡ Some byte
+  mode : vout_mode_told setup output told ≡ Some byte
   direct : mode_of byte ≡ Ok Direct
   none : coefficients_told setup output told ≡ None
   open' : is_none (learn_end setup output told) ≡ true
 
 -- every open learn that has its mode knows that mode
-mode_is_known : (setup : Setup) (output : ℕ) (told : List Entry) (byte : ℕ) → mode_told setup output told ≡ Some byte
+mode_is_known : (setup : Setup) (output : ℕ) (told : List Entry) (byte : ℕ) → vout_mode_told setup output told ≡ Some byte
     → is_none (learn_end setup output told) ≡ true → ModeIsKnown setup output told byte
 mode_is_known = search rules
 
@@ -255,7 +259,7 @@ record ModeRead (s : Summary) (output : ℕ) (told : List Entry) (bytes : List �
   is : good_payload s.setup.addr (mode_read output) bytes ≡ payload
   last_is : eqb (suc (length told)) s.setup.passes ≡ last
   some : 1 ≤ s.setup.passes
-  none : mode_told s.setup output told ≡ None
+  none : vout_mode_told s.setup output told ≡ None
   open' : is_none (learn_end s.setup output told) ≡ true
 
 -- a learn read VOUT_MODE
@@ -288,7 +292,7 @@ coefficients_read_follows = search rules
 
 -- a learn read what it asked for
 learn_follows : (s : Summary) (output : ℕ) (told : List Entry) (bytes : List ℕ) (mode : Option ℕ)
-    → mode_told s.setup output told ≡ mode → 1 ≤ s.setup.passes → is_none (learn_end s.setup output told) ≡ true
+    → vout_mode_told s.setup output told ≡ mode → 1 ≤ s.setup.passes → is_none (learn_end s.setup output told) ≡ true
     → GotFollows s (Some (Learn output)) told bytes
 learn_follows s output told bytes None mode some open' =
     mode_read_follows {s = s} (good_payload s.setup.addr (mode_read output) bytes) (eqb (suc (length told)) s.setup.passes)
@@ -310,7 +314,7 @@ got_follows s (Some (Check cell)) told bytes some reads =
     check_read {s = s} (good_payload s.setup.addr (cell_read cell) bytes) (eqb (suc (length told)) s.setup.passes)
     (record { is = refl; last_is = refl; reads = reads })
 got_follows s (Some (Learn output)) told bytes some reads =
-    learn_follows s output told bytes (mode_told s.setup output told) refl some reads
+    learn_follows s output told bytes (vout_mode_told s.setup output told) refl some reads
 got_follows s (Some (Send sent)) told bytes some reads = absurd reads
 
 -- Cells, their places, and lists with an element for each place.
@@ -631,9 +635,9 @@ IsJob-from = search rules
 
 -- the last job of a transcript is one
 pub IsJob-told : (setup : Setup) (entries : List Entry) → AreTold setup entries → IsJob setup (last_job entries)
-unfolding now
+unfolding host_now
 IsJob-told setup [] h = tt
-IsJob-told setup (Accepted job ∷ entries) h = IsJob-from (now setup entries) job h.0
+IsJob-told setup (Accepted job ∷ entries) h = IsJob-from (host_now setup entries) job h.0
 IsJob-told setup (Finished acked ∷ entries) h = IsJob-told setup entries h.1
 IsJob-told setup (Got bytes ∷ entries) h = IsJob-told setup entries h.1
 IsJob-told setup (Restarted ∷ entries) h = tt
@@ -646,14 +650,15 @@ same_change = search rules
 
 -- what the call that brings an entry does, and what the look back says after it
 pub change-now : CellsHavePlaces → (setup : Setup) (entries : List Entry) (entry : Entry) → IsSetup setup → IsJob setup (last_job entries)
-    → may_come (now setup entries) entry ≡ true
-    → change (now setup entries) entry ≡ record { after = now setup (entry ∷ entries); step = step_by (end_of setup (entry ∷ entries)) }
-unfolding now stage_of end_of open_job puts goods no_formats
+    → may_come (host_now setup entries) entry ≡ true
+    → change (host_now setup entries) entry
+    ≡ record { after = host_now setup (entry ∷ entries); step = step_by (last_job_end setup (entry ∷ entries)) }
+unfolding host_now stage_of last_job_end open_job puts goods no_formats
 change-now law setup entries (Accepted job) made there may =
-    let job_there = IsJob-from (now setup entries) job may in
+    let job_there = IsJob-from (host_now setup entries) job may in
     let formats = formats_found setup (Some job) [] (format_of_output setup entries) made.few_outputs job_there in
     let are = put_by-marks setup (Some job) [] made.few_outputs job_there (is_none (end_by setup (Some job) [])) in
-    accepted_follows (now setup entries) job made.one_pass
+    accepted_follows (host_now setup entries) job made.one_pass
     ∙ same_change (sym (formats ∙ formats_accepted setup job _))
     (sym (known_now-more law (puts_by setup (Some job) []) (marks setup entries) are))
 change-now law setup entries (Finished acked) made there may =
@@ -664,7 +669,7 @@ change-now law setup entries (Finished acked) made there may =
     let formats = formats_found setup last (Finished acked ∷ told) (format_of_output setup entries) made.few_outputs there in
     let are =
     put_by-marks setup last (Finished acked ∷ told) made.few_outputs there (is_none (end_by setup last (Finished acked ∷ told))) in
-    finished_follows (idle (now setup entries)) last told acked writes
+    finished_follows (idle (host_now setup entries)) last told acked writes
     ∙ same_change (sym (formats ∙ formats_finished setup last told (Finished acked) _ writes))
     (sym (known_now-more law begun (marks setup entries) are))
 change-now law setup entries (Got bytes) made there may =
@@ -676,7 +681,7 @@ change-now law setup entries (Got bytes) made there may =
     let are_begun =
     put_by-marks setup last (Got bytes ∷ told) made.few_outputs there (is_none (end_by setup last (Got bytes ∷ told))) in
     let are_read = goods_by-marks setup last told bytes made.few_outputs there (is_none (end_by setup last told)) in
-    got_follows (idle (now setup entries)) last told bytes made.one_pass reads
+    got_follows (idle (host_now setup entries)) last told bytes made.one_pass reads
     ∙ same_change (sym formats)
     (sym (known_now-more law begun _ are_begun
     ∙ ap (λ known. known_more known begun) (known_now-more law (goods_by setup last told bytes) (marks setup entries) are_read)))
@@ -684,15 +689,15 @@ change-now law setup entries Restarted made there may =
     same_change refl (sym (known_now-next law (marks setup entries) Restart tt))
 
 -- no entry
-pub now-nil : (setup : Setup) → IsSetup setup → now setup [] ≡ start setup
-unfolding now stage_of end_of open_job no_formats
+pub now-nil : (setup : Setup) → IsSetup setup → host_now setup [] ≡ start setup
+unfolding host_now stage_of last_job_end open_job no_formats
 now-nil setup made =
     ap (λ (known : Known). record { setup = setup; stage = None; formats = no_formats; known = known }) known_now-nil
 
 -- the format that is held is the one that the look back finds
 pub now-format : (setup : Setup) (entries : List Entry) (output : ℕ) → output < 8
-    → format_at (now setup entries) output ≡ format_of_output setup entries output
-unfolding now
+    → format_at (host_now setup entries) output ≡ format_of_output setup entries output
+unfolding host_now
 now-format = search rules
 
 -- A pass or a try is left at each stage of a job.
@@ -712,12 +717,12 @@ read-left = search rules
 
 -- after a question
 asked-left : (s : Summary) (question : Question) (tries : ℕ) (payload : Option (List ℕ)) → tries < s.setup.passes
-    → IsLeft s.setup.passes (asked s question tries payload).after.stage
+    → IsLeft s.setup.passes (question_answered s question tries payload).after.stage
 asked-left = search rules
 
 -- after each answer
 answered-left : (s : Summary) (stage : Option Stage) (bytes : List ℕ) → IsLeft s.setup.passes stage
-    → IsLeft s.setup.passes (answered s stage bytes).after.stage
+    → IsLeft s.setup.passes (request_answered s stage bytes).after.stage
 answered-left s None bytes left = tt
 answered-left s (Some (Writes cell word pass)) bytes left = left
 answered-left s (Some (Reads cell word pass)) bytes left = read-left s cell word pass (good_word s.setup.addr cell bytes) left
@@ -744,18 +749,18 @@ turn-left s Restarted some left = tt
 -- the frames that are left are bounded in each transcript
 pub told-left : CellsHavePlaces → (setup : Setup) (entries : List Entry) → IsSetup setup → AreTold setup entries
     → IsLeft setup.passes (stage_of setup entries)
-unfolding now
-told-left law setup [] made told = unfold stage_of in unfold open_job in unfold end_of in tt
+unfolding host_now
+told-left law setup [] made told = unfold stage_of in unfold open_job in unfold last_job_end in tt
 told-left law setup (e ∷ entries) made told =
     subst (λ (t : Change). IsLeft setup.passes t.after.stage) (change-now law setup entries e made (IsJob-told setup entries told.1) told.0)
-    (turn-left (now setup entries) e made.one_pass (told-left law setup entries made told.1))
+    (turn-left (host_now setup entries) e made.one_pass (told-left law setup entries made told.1))
 
 -- What holds while a job is open.
 
 -- an open job is the last one, and hasn't ended
 pub open_is_last : (setup : Setup) (entries : List Entry) (job : Job) → open_job setup entries ≡ Some job
     → (last_job entries ≡ Some job) × (is_none (end_by setup (last_job entries) (told_since entries)) ≡ true)
-unfolding open_job end_of
+unfolding open_job last_job_end
 open_is_last = search rules
 
 -- a joined word is possible
@@ -826,7 +831,7 @@ reads_order = search rules
 still_open : (setup : Setup) (entries : List Entry) (cell : Cell) (word : ℕ) → last_job entries ≡ Some (Order cell word)
     → is_none (order_end setup cell word (told_since entries)) ≡ true
     → open_job setup entries ≡ Some (Order cell word)
-unfolding open_job end_of
+unfolding open_job last_job_end
 still_open = search rules
 
 -- while an order is open its word is possible, and no word of its cell is confirmed
@@ -841,7 +846,7 @@ open_order setup (Accepted job ∷ entries) cell word made told is =
 open_order setup (Finished acked ∷ entries) cell word made told is =
     let last = (open_is_last setup (Finished acked ∷ entries) (Order cell word) is).0 in
     let writes = WritesBy-from setup (last_job entries) (told_since entries)
-    (unfold now in unfold stage_of in unfold open_job in unfold end_of in told.0) in
+    (unfold host_now in unfold stage_of in unfold open_job in unfold last_job_end in told.0) in
     let turn' = writes_order setup (last_job entries) (told_since entries) cell word last writes in
     same_facts _ (marks setup entries) cell word
     (put_none (open_job setup (Finished acked ∷ entries)) (told_since (Finished acked ∷ entries)) cell word (marks setup entries) is
@@ -850,7 +855,7 @@ open_order setup (Finished acked ∷ entries) cell word made told is =
 open_order setup (Got bytes ∷ entries) cell word made told is =
     let last = (open_is_last setup (Got bytes ∷ entries) (Order cell word) is).0 in
     let reads = ReadsBy-from setup (last_job entries) (told_since entries)
-    (unfold now in unfold stage_of in unfold open_job in unfold end_of in told.0) in
+    (unfold host_now in unfold stage_of in unfold open_job in unfold last_job_end in told.0) in
     let odd = (reads_order setup (last_job entries) (told_since entries) cell word last reads).1 in
     marked_facts _ (goods setup entries bytes ++ marks setup entries) cell word
     (put_newest (open_job setup (Got bytes ∷ entries)) (told_since (Got bytes ∷ entries)) cell word
@@ -905,8 +910,8 @@ order_there setup entries cell word told is =
 -- what holds of an open order, in a pass that is left
 ordering : {setup : Setup} {cell : Cell} {word : ℕ} → CellsHavePlaces → (entries : List Entry) (pass : ℕ) → IsSetup setup
     → AreTold setup entries → open_job setup entries ≡ Some (Order cell word) → pass < setup.passes
-    → IsOrdering (now setup entries) cell word pass
-unfolding now
+    → IsOrdering (host_now setup entries) cell word pass
+unfolding host_now
 ordering {setup = setup} {cell = cell} {word = word} law entries pass made told is left =
     let there = order_there setup entries cell word told is in
     let facts = open_order setup entries cell word made told is in
@@ -928,20 +933,20 @@ order_sound = search rules
 -- the stage of an open learn is sound
 learning : (setup : Setup) (entries : List Entry) (output m n : ℕ) (known : Bool) → output < setup.outputs
     → IsLeft setup.passes (Some (cond known (Asks (Coefficients output) m) (Asks (Mode output) n)))
-    → IsStage (now setup entries) (Some (cond known (Asks (Coefficients output) m) (Asks (Mode output) n)))
-unfolding now
+    → IsStage (host_now setup entries) (Some (cond known (Asks (Coefficients output) m) (Asks (Mode output) n)))
+unfolding host_now
 learning = search rules
 
 -- the stage of each open job is sound
 stage_sound : CellsHavePlaces → (setup : Setup) (entries : List Entry) (job : Option Job) → IsSetup setup → AreTold setup entries
     → open_job setup entries ≡ job
     → IsLeft setup.passes (option_map (λ j. job_stage setup j (told_since entries)) job)
-    → IsStage (now setup entries) (option_map (λ j. job_stage setup j (told_since entries)) job)
-unfolding now
+    → IsStage (host_now setup entries) (option_map (λ j. job_stage setup j (told_since entries)) job)
+unfolding host_now
 stage_sound law setup entries None made told is left = tt
 stage_sound law setup entries (Some (Order cell word)) made told is left =
     let pass = length (told_since entries) / 2 in
-    order_sound (now setup entries) cell word pass (is_write_turn (told_since entries)) (ordering law entries pass made told is) left
+    order_sound (host_now setup entries) cell word pass (is_write_turn (told_since entries)) (ordering law entries pass made told is) left
 stage_sound law setup entries (Some (Check cell)) made told is left =
     record {
       there = job_there setup (last_job entries) (Check cell) (open_is_last setup entries (Check cell) is).0
@@ -950,7 +955,7 @@ stage_sound law setup entries (Some (Check cell)) made told is left =
     }
 stage_sound law setup entries (Some (Learn output)) made told is left =
     learning setup entries output (coefficients_tries setup output (told_since entries)) (length (told_since entries))
-    (is_some (mode_told setup output (told_since entries)))
+    (is_some (vout_mode_told setup output (told_since entries)))
     (job_there setup (last_job entries) (Learn output) (open_is_last setup entries (Learn output) is).0 (IsJob-told setup entries told))
     left
 stage_sound law setup entries (Some (Send sent)) made told is left =
@@ -962,8 +967,8 @@ stage_sound law setup entries (Some (Send sent)) made told is left =
 
 -- what the host holds is sound after each transcript
 pub now-sound : CellsHavePlaces → (setup : Setup) (entries : List Entry) → IsSetup setup → AreTold setup entries
-    → IsSound (now setup entries)
-unfolding now stage_of
+    → IsSound (host_now setup entries)
+unfolding host_now stage_of
 now-sound law setup entries made told = record {
   setup = made;
   formats = length-map-range_with_len (format_of_output setup entries) 0 8;
@@ -997,7 +1002,7 @@ learn_sent setup output false there = reads_mode output there
 job_sent : (setup : Setup) (job : Job) (told : List Entry) → IsJob setup (Some job) → CanSend setup (job_message setup job told)
 job_sent setup (Order cell word) told there = order_sent setup cell word (is_write_turn told) there.0 there.1
 job_sent setup (Check cell) told there = read_sent setup cell there
-job_sent setup (Learn output) told there = learn_sent setup output (is_some (mode_told setup output told)) there
+job_sent setup (Learn output) told there = learn_sent setup output (is_some (vout_mode_told setup output told)) there
 job_sent setup (Send sent) told there = frames_sends_command sent there
 
 -- each frame of an open job can be sent
@@ -1015,13 +1020,13 @@ unfolding sending_of
 sent-named setup entries m made told sent = sent_step setup entries (open_job setup entries) m told refl sent
 
 -- what the host answers is what the look back finds
-pub now-sending : (setup : Setup) (entries : List Entry) → sending_in (now setup entries) ≡ sending_of setup entries
-unfolding now stage_of sending_of
+pub now-sending : (setup : Setup) (entries : List Entry) → sending_in (host_now setup entries) ≡ sending_of setup entries
+unfolding host_now stage_of sending_of
 now-sending = search rules
 
 -- a job is open where the look back finds one
-pub now-busy : (setup : Setup) (entries : List Entry) → is_busy (now setup entries) ≡ is_some (open_job setup entries)
-unfolding now stage_of
+pub now-busy : (setup : Setup) (entries : List Entry) → is_busy (host_now setup entries) ≡ is_some (open_job setup entries)
+unfolding host_now stage_of
 now-busy = search rules
 
 -- How many frames a job sends: with each that was sent fewer are left.
@@ -1033,7 +1038,7 @@ read-spends = search rules
 
 -- a question that was asked has its later tries left, and a learn that knows VOUT_MODE those of the coefficients
 asked-spends : (s : Summary) (question : Question) (tries : ℕ) (payload : Option (List ℕ)) → tries < s.setup.passes
-    → frames_left (asked s question tries payload).after < frames_from s.setup.passes (Asks question tries)
+    → frames_left (question_answered s question tries payload).after < frames_from s.setup.passes (Asks question tries)
 asked-spends = search rules
 
 -- a write that was sent leaves fewer frames, whatever became of it
@@ -1045,7 +1050,7 @@ finished-spends = search rules
 -- a request that was sent spends a frame too, whatever came back
 answered-spends : (s : Summary) (stage : Option Stage) (bytes : List ℕ) → IsLeft s.setup.passes stage
     → sends_read (record s { stage = stage }) ≡ true
-    → frames_left (answered s stage bytes).after < frames_left (record s { stage = stage })
+    → frames_left (request_answered s stage bytes).after < frames_left (record s { stage = stage })
 answered-spends s None bytes left reads = search rules
 answered-spends s (Some (Writes cell word pass)) bytes left reads = search rules
 answered-spends s (Some (Reads cell word pass)) bytes left reads = read-spends s cell word pass (good_word s.setup.addr cell bytes) left
@@ -1063,34 +1068,34 @@ one_left = search rules
 
 -- what was sent of the last job, and what it has left, is at most that
 sent_and_left : CellsHavePlaces → (setup : Setup) (entries : List Entry) → IsSetup setup → AreTold setup entries
-    → length (told_since entries) + frames_left (now setup entries) ≤ 2 * setup.passes
-unfolding now
-sent_and_left law setup [] made told = unfold stage_of in unfold open_job in unfold end_of in omega arith
+    → length (told_since entries) + frames_left (host_now setup entries) ≤ 2 * setup.passes
+unfolding host_now
+sent_and_left law setup [] made told = unfold stage_of in unfold open_job in unfold last_job_end in omega arith
 sent_and_left law setup (Accepted job ∷ entries) made told =
     subst (λ (t : Change). 0 + frames_left t.after ≤ 2 * setup.passes)
     (change-now law setup entries (Accepted job) made (IsJob-told setup entries told.1) told.0)
-    (let bound = begins-bounded (now setup entries) job in omega arith)
+    (let bound = begins-bounded (host_now setup entries) job in omega arith)
 sent_and_left law setup (Finished acked ∷ entries) made told =
     let before = sent_and_left law setup entries made told.1 in
-    let spends = finished-spends (idle (now setup entries)) (stage_of setup entries) acked
+    let spends = finished-spends (idle (host_now setup entries)) (stage_of setup entries) acked
     (told-left law setup entries made told.1) told.0 in
     subst (λ (t : Change). length (told_since (Finished acked ∷ entries)) + frames_left t.after ≤ 2 * setup.passes)
     (change-now law setup entries (Finished acked) made (IsJob-told setup entries told.1) told.0) (omega arith)
 sent_and_left law setup (Got bytes ∷ entries) made told =
     let before = sent_and_left law setup entries made told.1 in
-    let spends = answered-spends (idle (now setup entries)) (stage_of setup entries) bytes
+    let spends = answered-spends (idle (host_now setup entries)) (stage_of setup entries) bytes
     (told-left law setup entries made told.1) told.0 in
     subst (λ (t : Change). length (told_since (Got bytes ∷ entries)) + frames_left t.after ≤ 2 * setup.passes)
     (change-now law setup entries (Got bytes) made (IsJob-told setup entries told.1) told.0) (omega arith)
-sent_and_left law setup (Restarted ∷ entries) made told = unfold stage_of in unfold open_job in unfold end_of in omega arith
+sent_and_left law setup (Restarted ∷ entries) made told = unfold stage_of in unfold open_job in unfold last_job_end in omega arith
 
 -- no job sends more than twice as many frames as it has passes
 pub frames-bound : CellsHavePlaces → (setup : Setup) (entries : List Entry) → IsSetup setup → AreTold setup entries
     → frames_of setup entries ≤ 2 * setup.passes
-unfolding now
+unfolding host_now
 frames-bound law setup entries made told =
     let bound = sent_and_left law setup entries made told in
-    let one = one_left (now setup entries) (told-left law setup entries made told) in
+    let one = one_left (host_now setup entries) (told-left law setup entries made told) in
     rw (← now-busy setup entries) (omega arith)
 
 -- What the call that tells a host of a frame says of the job, over the definitions alone: by the stage, by what was
@@ -1212,7 +1217,7 @@ answer_tells law s (Coefficients output) tries bytes payload sound whole there i
 -- a question was asked
 asked_tells : CellsHavePlaces → (s : Summary) (question : Question) (tries : ℕ) (bytes : List ℕ) (payload : Option (List ℕ)) → IsSound s
     → HasPlaces s.known → IsQuestion s.setup.outputs question → good_payload s.setup.addr (question_message question) bytes ≡ payload
-    → Tells s (Some (Asks question tries)) (Got bytes) (asked (idle s) question tries payload)
+    → Tells s (Some (Asks question tries)) (Got bytes) (question_answered (idle s) question tries payload)
 asked_tells law s question tries bytes None sound whole there is =
     another_tells s question tries bytes (eqb (tries + 1) s.setup.passes) is refl
 asked_tells law s question tries bytes (Some payload) sound whole there is =
@@ -1235,14 +1240,14 @@ finished_tells : (s : Summary) (stage : Option Stage) (acked : Bool)
     → Tells s stage (Finished acked) (finished (idle s) stage acked)
 finished_tells s None acked comes = absurd (false≢true comes)
 finished_tells s (Some (Writes cell word pass)) acked comes = (refl, refl)
-finished_tells s (Some (Reads cell word pass)) acked comes = absurd (false≢true (sym (ap not (reads_cell cell)) ∙ comes))
+finished_tells s (Some (Reads cell word pass)) acked comes = absurd (false≢true (sym (ap not (cell_read_is_request cell)) ∙ comes))
 finished_tells s (Some (Asks question tries)) acked comes = absurd (false≢true (sym (ap not (reads_question question)) ∙ comes))
 finished_tells s (Some (Sends command tries)) acked comes = sent_tells s command tries acked (eqb (tries + 1) s.setup.passes) refl
 
 -- bytes that came back
 got_tells : CellsHavePlaces → (s : Summary) (stage : Option Stage) (bytes : List ℕ) → IsSound s → HasPlaces s.known → IsStage s stage
     → option_map_or is_read_message (option_map stage_message stage) false ≡ true
-    → Tells s stage (Got bytes) (answered (idle s) stage bytes)
+    → Tells s stage (Got bytes) (request_answered (idle s) stage bytes)
 got_tells law s None bytes sound whole at comes = absurd (false≢true comes)
 got_tells law s (Some (Writes cell word pass)) bytes sound whole at comes = absurd (false≢true (sym (writes_cell cell word) ∙ comes))
 got_tells law s (Some (Reads cell word pass)) bytes sound whole at comes =
@@ -1254,8 +1259,8 @@ got_tells law s (Some (Sends command tries)) bytes sound whole at comes = absurd
 
 -- whatever a host is told of a frame
 frame_tells : CellsHavePlaces → (s : Summary) (entry : Entry) → HasPlaces s.known → IsSound s → may_come s entry ≡ true
-    → is_of_frame entry ≡ true → StepTells s entry (step_of s entry) (next s entry)
-unfolding next step_of
+    → is_of_frame entry ≡ true → StepTells s entry (step_of s entry) (host_next s entry)
+unfolding host_next step_of
 frame_tells law s (Accepted job) whole sound comes frame = absurd (false≢true frame)
 frame_tells law s (Finished acked) whole sound comes frame = finished_tells s s.stage acked comes
 frame_tells law s (Got bytes) whole sound comes frame = got_tells law s s.stage bytes sound whole sound.stage comes
@@ -1266,15 +1271,15 @@ told_frame : (told : Told) → is_of_frame (entry_told told) ≡ true
 told_frame = search rules
 
 -- the step and the host after a call that is told of a frame are those that the frame tells
-pub told-tells : (s new : Summary) (told : Told) (step : Step) → new ≡ next s (entry_told told) → step ≡ step_of s (entry_told told)
+pub told-tells : (s new : Summary) (told : Told) (step : Step) → new ≡ host_next s (entry_told told) → step ≡ step_of s (entry_told told)
     → CellsHavePlaces → HasPlaces s.known → IsSound s → may_come s (entry_told told) ≡ true
     → StepTells s (entry_told told) step new
 told-tells s new told step after is law whole sound comes =
     rw (after, is) (frame_tells law s (entry_told told) whole sound comes (told_frame told))
 
 -- there is a place for each cell
-now_places : (setup : Setup) (entries : List Entry) → HasPlaces (now setup entries).known
-unfolding now known_now
+now_places : (setup : Setup) (entries : List Entry) → HasPlaces (host_now setup entries).known
+unfolding host_now known_now
 now_places setup entries = record {
   possible = length-table places (possible_of (marks setup entries));
   standing = length-table places (standing_of (marks setup entries));
@@ -1283,10 +1288,10 @@ now_places setup entries = record {
 -- the step and the host after an entry of a frame in a transcript are those that the frame tells
 pub entry-tells : CellsHavePlaces → TranscriptsAreFollowed → (setup : Setup) (entries : List Entry) (entry : Entry) → IsSetup setup
     → AreTold setup (entry ∷ entries) → is_of_frame entry ≡ true
-    → StepTells (now setup entries) entry (step_by (end_of setup (entry ∷ entries))) (now setup (entry ∷ entries))
+    → StepTells (host_now setup entries) entry (step_by (last_job_end setup (entry ∷ entries))) (host_now setup (entry ∷ entries))
 entry-tells law followed setup entries entry made told frame =
     rw (followed.more setup entries entry made told, ← followed.step setup entries entry made told)
-    (frame_tells law (now setup entries) entry (now_places setup entries) (followed.sound setup entries made told.1) told.0 frame)
+    (frame_tells law (host_now setup entries) entry (now_places setup entries) (followed.sound setup entries made told.1) told.0 frame)
 
 -- the job of the stage is the open one
 stage_of-job : (setup : Setup) (job : Job) (told : List Entry) → stage_job (job_stage setup job told) ≡ job
@@ -1295,7 +1300,7 @@ stage_of-job setup (Order cell word) told = go (is_write_turn told) where
   go true = refl
   go false = refl
 stage_of-job setup (Check cell) told = refl
-stage_of-job setup (Learn output) told = go (is_some (mode_told setup output told)) where
+stage_of-job setup (Learn output) told = go (is_some (vout_mode_told setup output told)) where
   go : (known : Bool) → stage_job
       (cond known (Asks (Coefficients output) (coefficients_tries setup output told)) (Asks (Mode output) (length told)))
       ≡ Learn output
@@ -1310,15 +1315,15 @@ open_of-job setup None told = refl
 open_of-job setup (Some job) told = ap Some (stage_of-job setup job told)
 
 -- the job that a host has open after a transcript is the transcript's open job
-pub now-job : (setup : Setup) (entries : List Entry) → job_in (now setup entries) ≡ open_job setup entries
-unfolding now stage_of
+pub now-job : (setup : Setup) (entries : List Entry) → job_in (host_now setup entries) ≡ open_job setup entries
+unfolding host_now stage_of
 now-job setup entries = open_of-job setup (open_job setup entries) (told_since entries)
 
 -- No entry changes what a host was made with.
 
 -- what a host was made with stays after an entry, by the definition of each change
-pub next-keeps : (s : Summary) (e : Entry) → (next s e).setup ≡ s.setup
-unfolding next
+pub next-keeps : (s : Summary) (e : Entry) → (host_next s e).setup ≡ s.setup
+unfolding host_next
 next-keeps = search rules
 
 -- Which words are possible, one mark after another.

@@ -25,9 +25,10 @@ use Rattle.pm_host.specs.{declared.standing_image.StandingImage.StandingImage, d
 use Rattle.pm_host.specs.Frames.{CanSend, writes_output, writes_protect, reads_output, reads_protect, reads_mode, reads_coefficients}
 use Rattle.pm_host.specs.Frames.{sends_command}
 use Rattle.pm_host.specs.Image.{known_held, listing, standing_held, words_held, is_setup, is_stage, is_sound}
-use Rattle.pm_host.specs.Memory.{format_image, mode_byte, IsFormat, standing_image, words_image, AreWords, IsKnown, IsSaid}
+use Rattle.pm_host.specs.Memory.{format_image, mode_byte, IsFormatImage, standing_image, words_image, IsWordsImage, IsKnown}
+use Rattle.pm_host.specs.Memory.{IsStandingImage}
 use Rattle.pm_host.specs.Messages.{register_payload, mode_read, command_message}
-use Rattle.pm_host.specs.Refusals.{is_within, outside_fault, IsSetup}
+use Rattle.pm_host.specs.Refusals.{is_within, outside_format_fault, IsSetup}
 use Rattle.pm_host.specs.Sound.{IsStage, IsSound}
 use Rattle.pm_host.specs.declared.stage.Stage.TheVariants.{Writes, Reads, Asks, Sends}
 
@@ -69,7 +70,7 @@ direct-again c bytes same false true some = ap (λ bs. record { mode = 0x40; coe
 direct-again c bytes same false false some = cc
 
 pub direct-written : (a b c d e : ℕ) → a < 256 → b < 256 → c < 256 → d < 256 → e < 256
-    → IsFormat (record { mode = 0x40; coefficients = a ∷ b ∷ c ∷ d ∷ e ∷ [] })
+    → IsFormatImage (record { mode = 0x40; coefficients = a ∷ b ∷ c ∷ d ∷ e ∷ [] })
 direct-written a b c d e la lb lc ld le =
     let bytes = a ∷ b ∷ c ∷ d ∷ e ∷ [] in
     let coefficients = coefficients_of bytes in
@@ -131,7 +132,7 @@ place-written f g xs i d all below =
 
 -- words with zeros behind them are written so
 listed-written : (words : List ℕ) → is_within 1 16 (length words) ≡ true
-    → AreWords (record { count = length words; words = words ++ replicate (16 - length words) 0 })
+    → IsWordsImage (record { count = length words; words = words ++ replicate (16 - length words) 0 })
 listed-written words within =
     let zeros = replicate (16 - length words) 0 in
     let held : words_held (record { count = length words; words = words ++ zeros }) ≡ listing words =
@@ -144,7 +145,7 @@ pub record Listed (image : WordsImage) : Type 0 where
   pub count : image.count ≡ length list
   pub words : image.words ≡ list ++ replicate (16 - length list) 0
 
-listed : (words : WordsImage) → is_within 1 16 words.count ≡ true → AreWords words → Listed words
+listed : (words : WordsImage) → is_within 1 16 words.count ≡ true → IsWordsImage words → Listed words
 listed words within are =
     let held : words_held words ≡ listing (take words.count words.words) = rw within refl in
     let same : words ≡ words_image (listing (take words.count words.words)) = are ∙ ap words_image held in
@@ -156,7 +157,7 @@ listed words within are =
 
 -- another word joins them
 pub joined-written : (words : WordsImage) (word : ℕ) → is_within 1 16 words.count ≡ true → words.count < 16
-    → AreWords words → AreWords (record { count = words.count + 1; words = set words.words words.count word })
+    → IsWordsImage words → IsWordsImage (record { count = words.count + 1; words = set words.words words.count word })
 joined-written words word within room are =
     let l = listed words within are in
     let few : length l.list < 16 = subst (λ n. n < 16) l.count room in
@@ -173,12 +174,12 @@ joined-written words word within room are =
     ∙ ap (λ n. (l.list ++ word ∷ []) ++ replicate n 0) (sym behind) in
     let count : words.count + 1 ≡ length (l.list ++ word ∷ []) = ap (λ n. n + 1) l.count ∙ sym longer in
     let within_now : is_within 1 16 (length (l.list ++ word ∷ [])) ≡ true = search rules in
-    subst AreWords (sym (ap₂ (λ n ws. record { count = n; words = ws }) count written))
+    subst IsWordsImage (sym (ap₂ (λ n ws. record { count = n; words = ws }) count written))
     (listed-written (l.list ++ word ∷ []) within_now)
 
 -- what is known stays written so where that of one cell is
-pub set-known : (known : Knowledge) (i : ℕ) (words : WordsImage) (said : StandingImage) → IsKnown known → AreWords words
-    → IsSaid said
+pub set-known : (known : Knowledge) (i : ℕ) (words : WordsImage) (said : StandingImage) → IsKnown known → IsWordsImage words
+    → IsStandingImage said
     → IsKnown (record { possible = set known.possible i words; standing = set known.standing i said; seen = known.seen })
 unfolding IsKnown known_held
 set-known known i words said is are told =
@@ -232,7 +233,7 @@ is_at_most-false = search rules
 
 -- the refusal of a number outside a format: N3 below the least value, N4 above the greatest
 pub outside_fault-some : (l h x : Ratio) (fault : NumFault) → 0 < h.den → AtMost l h → IsOutside l h x fault
-    → outside_fault l h x ≡ Some fault
+    → outside_format_fault l h x ≡ Some fault
 outside_fault-some l h x BelowLeast den le less = rw (is_at_most-false l x less) refl
 outside_fault-some l h x AboveGreatest den le less =
     rw (is_at_most-true l x (AtMost-above l h x den le less), is_at_most-false x h less) refl

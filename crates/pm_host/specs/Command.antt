@@ -17,9 +17,9 @@ command_output (ClearFaults output) = Some output
 command_output _ = None
 
 -- the command of a code, at an output or at the device
-abbrev pub command_of : ℕ → Option ℕ → Option Command
-command_of code (Some output) =
+abbrev pub command_of_code : ℕ → Option ℕ → Option Command
+command_of_code code (Some output) =
     if code == command.clear_faults then Some (ClearFaults output) else None
-command_of code None =
+command_of_code code None =
     if code == command.store_user_all then Some StoreUserAll
     else (if code == command.restore_user_all then Some RestoreUserAll else None)

@@ -26,7 +26,7 @@ use Rattle.pm_host.specs.declared.standing_image.StandingImage.{StandingImage}
 use Rattle.pm_host.specs.declared.state.State.{State}
 use Rattle.pm_host.specs.declared.words_image.WordsImage.{WordsImage}
 use Rattle.pm_host.specs.Cells.{is_command}
-use Rattle.pm_host.specs.Command.{command_of}
+use Rattle.pm_host.specs.Command.{command_of_code}
 use Rattle.pm_host.specs.Known.{Known}
 use Rattle.pm_host.specs.Possible.{is_possible}
 use Rattle.pm_host.specs.Question.{is_question}
@@ -71,7 +71,7 @@ at_cell i stage = option_map stage (cell_at i.code i.output)
 
 -- the stage that sends the command of the code that the image has, at this output or at the device
 abbrev pub at_command : StageImage → Option ℕ → Option Stage
-at_command i output = option_map (λ command. Sends command i.count) (command_of i.code output)
+at_command i output = option_map (λ command. Sends command i.count) (command_of_code i.code output)
 
 -- the stage that the numbers mean, where they mean one
 abbrev pub stage_in : StageImage → Option Stage
@@ -100,14 +100,14 @@ is_setup setup = is_within 0x08 0x77 setup.addr && is_within 1 8 setup.outputs
     && is_within 1 15 setup.passes
 
 -- nothing is confirmed
-abbrev pub is_unknown : Standing → Bool
-is_unknown (Confirmed word) = false
-is_unknown Unknown = true
+abbrev pub is_unconfirmed : Standing → Bool
+is_unconfirmed (Confirmed word) = false
+is_unconfirmed Unknown = true
 
 -- an order of this cell and word may be open
 abbrev pub may_order : Summary → Cell → ℕ → Bool
 may_order s cell word = is_cell s.setup.outputs cell && cell_accepts cell word
-    && is_possible word (possible_at s cell) && is_unknown (standing_at s cell)
+    && is_possible word (possible_at s cell) && is_unconfirmed (standing_at s cell)
 
 -- an open job may stand at this stage
 abbrev pub is_stage : Summary → Option Stage → Bool

@@ -12,7 +12,7 @@ use Rattle.pm_host.specs.declared.stage.Stage.{Stage}
 use Rattle.pm_host.specs.Ended.{job_in, BeginsWith}
 use Rattle.pm_host.specs.Frames.{frames_left}
 use Rattle.pm_host.specs.Refusals.{job_fault, micro_fault, micro_word}
-use Rattle.pm_host.specs.Summary.{Summary, next, format_at}
+use Rattle.pm_host.specs.Summary.{Summary, host_next, format_at}
 use Rattle.pm_host.specs.Transcript as accepted
 
 -- The job that is accepted: what is asked for, in microvolts that of the nearest word in the format that the
@@ -40,7 +40,7 @@ pub record Begins {X : Type 0} (old : Summary) (job : Job) (result : Result X Ho
   -- it is refused exactly for these
   pub fault : result_err result ≡ begin_fault old job
   -- otherwise it is accepted
-  pub ok : OnOk result (IsSomeAnd (accepted_job old job) (λ begun. new ≡ next old (accepted.Accepted begun)))
+  pub ok : OnOk result (IsSomeAnd (accepted_job old job) (λ begun. new ≡ host_next old (accepted.Accepted begun)))
   pub nearest : OnOk result (HasNearestWord old job)
   -- it is open then, and of an order's cell nothing is confirmed any more
   pub begun : OnOk result (job_in new ≡ accepted_job old job)

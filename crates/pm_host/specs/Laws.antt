@@ -15,54 +15,54 @@ use Rattle.pm_host.specs.declared.knowledge.Standing.TheVariants.{Unknown}
 use Rattle.pm_host.specs.Ended.{job_in, StepTells}
 use Rattle.pm_host.specs.Frames.{CanSend, frames_of}
 use Rattle.pm_host.specs.Marks.{Mark, Put, Good, Restored, Restart, marks}
-use Rattle.pm_host.specs.Now.{now, AreTold}
+use Rattle.pm_host.specs.Now.{host_now, AreTold}
 use Rattle.pm_host.specs.Possible.{possible_of, is_possible, restart_seen_of}
 use Rattle.pm_host.specs.Refusals.{IsSetup, is_busy}
 use Rattle.pm_host.specs.Sound.{IsSound}
 use Rattle.pm_host.specs.Standing.{standing_of}
-use Rattle.pm_host.specs.Summary.{Summary, start, next, step_of, step_by, sending_in, possible_at, standing_at, format_at}
+use Rattle.pm_host.specs.Summary.{Summary, start, host_next, step_of, step_by, sending_in, possible_at, standing_at, format_at}
 use Rattle.pm_host.specs.Told.{is_of_frame}
-use Rattle.pm_host.specs.Transcript.{Setup, Order, Send, Entry, open_job, end_of, sending_of, format_of_output}
+use Rattle.pm_host.specs.Transcript.{Setup, Order, Send, Entry, open_job, last_job_end, sending_of, format_of_output}
 
 -- What a host holds after its transcript, which the definitions find by looking back over the whole
 -- of it, is what one entry after another makes of its start.
 pub record TranscriptsAreFollowed : Type 0 where
   -- the host holds its start after no entry, and after one more what that entry makes of what it held
-  pub none : (setup : Setup) → IsSetup setup → now setup [] ≡ start setup
+  pub none : (setup : Setup) → IsSetup setup → host_now setup [] ≡ start setup
   pub more : (setup : Setup) (entries : List Entry) (entry : Entry) → IsSetup setup
-      → AreTold setup (entry ∷ entries) → now setup (entry ∷ entries) ≡ next (now setup entries) entry
+      → AreTold setup (entry ∷ entries) → host_now setup (entry ∷ entries) ≡ host_next (host_now setup entries) entry
   -- what the call that brings an entry answers is how the job stands after it
   pub step : (setup : Setup) (entries : List Entry) (entry : Entry) → IsSetup setup
       → AreTold setup (entry ∷ entries)
-      → step_of (now setup entries) entry ≡ step_by (end_of setup (entry ∷ entries))
+      → step_of (host_now setup entries) entry ≡ step_by (last_job_end setup (entry ∷ entries))
   -- no entry changes what a host was made with
-  pub kept : (s : Summary) (entry : Entry) → (next s entry).setup ≡ s.setup
+  pub kept : (s : Summary) (entry : Entry) → (host_next s entry).setup ≡ s.setup
   -- what the host answers is what the definitions find in the transcript and its marks
   pub busy : (setup : Setup) (entries : List Entry)
-      → is_busy (now setup entries) ≡ is_some (open_job setup entries)
+      → is_busy (host_now setup entries) ≡ is_some (open_job setup entries)
   pub sending : (setup : Setup) (entries : List Entry)
-      → sending_in (now setup entries) ≡ sending_of setup entries
+      → sending_in (host_now setup entries) ≡ sending_of setup entries
   pub format : (setup : Setup) (entries : List Entry) (output : ℕ) → output < 8
-      → format_at (now setup entries) output ≡ format_of_output setup entries output
+      → format_at (host_now setup entries) output ≡ format_of_output setup entries output
   pub standing : (setup : Setup) (entries : List Entry) (cell : Cell) → IsCell 8 cell
-      → standing_at (now setup entries) cell ≡ standing_of (marks setup entries) cell
+      → standing_at (host_now setup entries) cell ≡ standing_of (marks setup entries) cell
   pub possible : (setup : Setup) (entries : List Entry) (cell : Cell) → IsCell 8 cell
-      → possible_at (now setup entries) cell ≡ possible_of (marks setup entries) cell
+      → possible_at (host_now setup entries) cell ≡ possible_of (marks setup entries) cell
   pub seen : (setup : Setup) (entries : List Entry)
-      → (now setup entries).known.seen ≡ restart_seen_of (marks setup entries)
+      → (host_now setup entries).known.seen ≡ restart_seen_of (marks setup entries)
   -- what holds of each host between two calls holds of it
   pub sound : (setup : Setup) (entries : List Entry) → IsSetup setup → AreTold setup entries
-      → IsSound (now setup entries)
+      → IsSound (host_now setup entries)
 
 -- What the end of a job says, of a whole transcript: what the call says that tells a host of a frame, of the job that
 -- is open.
 pub record EndsAreTold : Type 0 where
   pub job : (setup : Setup) (entries : List Entry) →
-      job_in (now setup entries) ≡ open_job setup entries
+      job_in (host_now setup entries) ≡ open_job setup entries
   pub tells : (setup : Setup) (entries : List Entry) (entry : Entry) → IsSetup setup
       → AreTold setup (entry ∷ entries) → is_of_frame entry ≡ true
-      → StepTells (now setup entries) entry (step_by (end_of setup (entry ∷ entries)))
-      (now setup (entry ∷ entries))
+      → StepTells (host_now setup entries) entry (step_by (last_job_end setup (entry ∷ entries)))
+      (host_now setup (entry ∷ entries))
 
 -- no job sends more than twice as many frames as a job has passes
 abbrev pub JobsAreBounded : Type 0

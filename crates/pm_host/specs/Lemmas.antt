@@ -24,8 +24,8 @@ use Rattle.pm_host.specs.Summary.{Summary, format_at}
 use Rattle.pm_host.specs.Transcript as host
 
 -- The message that reads a cell is a request.
-pub reads_cell : (cell : Cell) → is_read_message (cell_read cell) ≡ true
-reads_cell = search rules
+pub cell_read_is_request : (cell : Cell) → is_read_message (cell_read cell) ≡ true
+cell_read_is_request = search rules
 
 -- The message that writes a cell is no request.
 pub writes_cell : (cell : Cell) (word : ℕ) → is_read_message (cell_write cell word) ≡ false

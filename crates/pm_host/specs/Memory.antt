@@ -92,26 +92,26 @@ stage_image (Some (Sends command tries)) = command_stage command tries
 
 -- an image has the numbers that are written for what it means: of possible words, of what is said of a cell, of what is known, and of the
 -- formats
-abbrev pub AreWords : WordsImage → Type 0
-AreWords words = words ≡ words_image (words_held words)
+abbrev pub IsWordsImage : WordsImage → Type 0
+IsWordsImage words = words ≡ words_image (words_held words)
 
-abbrev pub IsSaid : StandingImage → Type 0
-IsSaid said = said ≡ standing_image (standing_held said)
+abbrev pub IsStandingImage : StandingImage → Type 0
+IsStandingImage said = said ≡ standing_image (standing_held said)
 
 -- numbers that mean a format are those of it
-abbrev pub IsFormat : FormatImage → Type 0
-IsFormat format = is_some (format_held format) ≡ true → format ≡ format_image (format_held format)
+abbrev pub IsFormatImage : FormatImage → Type 0
+IsFormatImage format = is_some (format_held format) ≡ true → format ≡ format_image (format_held format)
 
 unfoldable pub IsKnown : Knowledge → Type 0
 IsKnown known = known ≡ known_image (known_held known)
 
-unfoldable pub AreFormats : List FormatImage → Type 0
-AreFormats formats = formats ≡ map format_image (formats_held formats)
+unfoldable pub AreFormatImages : List FormatImage → Type 0
+AreFormatImages formats = formats ≡ map format_image (formats_held formats)
 
 -- what a host holds beside its open job is written so
 pub record IsState (state : State) : Type 0 where
   pub unused : state.unused ≡ 0
-  pub formats : AreFormats state.formats
+  pub formats : AreFormatImages state.formats
   pub known : IsKnown state.known
 
 -- a host is, with where its open job stands

@@ -10,16 +10,16 @@ use Rattle.pm_host.specs.Image.{held}
 use Rattle.pm_host.specs.Summary.{Change}
 
 -- the stage of the open job; None where none is open
-abbrev pub stage_after : Progress → Option Stage
-stage_after (At stage) = Some stage
-stage_after (Over end) = None
+abbrev pub stage_of_progress : Progress → Option Stage
+stage_of_progress (At stage) = Some stage
+stage_of_progress (Over end) = None
 
 -- what a call answers that tells what became of the frame
-abbrev pub step_after : Progress → Step
-step_after (At stage) = Next
-step_after (Over end) = Ended end
+abbrev pub step_of_progress : Progress → Step
+step_of_progress (At stage) = Next
+step_of_progress (Over end) = Ended end
 
 -- the step and the host after a frame was sent
 abbrev pub change_to : Progress → State → Change
 change_to progress state =
-    record { after = held (stage_after progress) state; step = step_after progress }
+    record { after = held (stage_of_progress progress) state; step = step_of_progress progress }

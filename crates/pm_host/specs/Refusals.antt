@@ -83,8 +83,8 @@ micro_word s cell x = option_and_then
     (format_at s (output_of cell))
 
 -- N3 for a number below the least value of a format, N4 for one above the greatest
-abbrev pub outside_fault : Ratio → Ratio → Ratio → Option NumFault
-outside_fault least greatest x =
+abbrev pub outside_format_fault : Ratio → Ratio → Ratio → Option NumFault
+outside_format_fault least greatest x =
     if not (is_at_most least x) then Some BelowLeast
     else (if not (is_at_most x greatest) then Some AboveGreatest else None)
 
@@ -92,7 +92,7 @@ outside_fault least greatest x =
 abbrev pub range_fault_in : Ratio → Ratio → ℤ → Option HostFault
 range_fault_in least greatest x =
     if nat_lt (10 ^ 15) (unsigned_abs x) then Some (Num TooLarge)
-    else option_map (λ fault. Num fault) (outside_fault least greatest (micros x))
+    else option_map (λ fault. Num fault) (outside_format_fault least greatest (micros x))
 
 abbrev pub range_fault : Shape → ℤ → Option HostFault
 range_fault shape x = range_fault_in (shape_lowest shape) (shape_highest shape) x

@@ -14,9 +14,9 @@ use Rattle.pm_host.specs.Refusals.{IsSetup}
 use Rattle.pm_host.specs.Summary.{Summary, possible_at, standing_at}
 
 -- the cell of a write accepts its word
-abbrev pub HasWord : Stage → Type 0
-HasWord (Writes cell word pass) = cell_accepts cell word ≡ true
-HasWord stage = Unit {0}
+abbrev pub AcceptsWrittenWord : Stage → Type 0
+AcceptsWrittenWord (Writes cell word pass) = cell_accepts cell word ≡ true
+AcceptsWrittenWord stage = Unit {0}
 
 -- an order is open: its cell is there and accepts its word, which is one that the cell may hold; no
 -- word of the cell is confirmed, and a pass is left

@@ -84,8 +84,8 @@ pub record Change : Type 0 where
   pub step : Step
 
 -- the job goes on at this stage
-abbrev pub goes_on : Summary → Stage → Change
-goes_on s stage = record { after = record s { stage = Some stage }; step = Next }
+abbrev pub goes_on_at : Summary → Stage → Change
+goes_on_at s stage = record { after = record s { stage = Some stage }; step = Next }
 
 -- the job has ended
 abbrev pub ends : Summary → JobEnd → Change
@@ -105,23 +105,23 @@ marked s mark = record s { known = known_after s.known mark }
 
 -- the write of an order begins to be sent
 abbrev pub writes : Summary → Cell → ℕ → ℕ → Change
-writes s cell word pass = goes_on (marked s (Put cell word)) (Writes cell word pass)
+writes s cell word pass = goes_on_at (marked s (Put cell word)) (Writes cell word pass)
 
 -- a command begins to be sent, after these tries, and leaves its marks
 abbrev pub sends : Summary → Command → ℕ → Change
 sends s command tries =
-    goes_on (record s { known = known_more s.known (send_marks command) }) (Sends command tries)
+    goes_on_at (record s { known = known_more s.known (send_marks command) }) (Sends command tries)
 
 -- a question is asked again after these tries, where one is left
 abbrev pub another : Summary → Question → ℕ → Change
 another s question tries =
-    if tries + 1 == s.setup.passes then ends s Unknown else goes_on s (Asks question (tries + 1))
+    if tries + 1 == s.setup.passes then ends s Unknown else goes_on_at s (Asks question (tries + 1))
 
 -- a job is accepted
 abbrev pub begins : Summary → Job → Change
 begins s (Order cell word) = writes s cell word 0
-begins s (Check cell) = goes_on s (Asks (Word cell) 0)
-begins s (Learn output) = goes_on s (Asks (Mode output) 0)
+begins s (Check cell) = goes_on_at s (Asks (Word cell) 0)
+begins s (Learn output) = goes_on_at s (Asks (Mode output) 0)
 begins s (Send command) = sends s command 0
 
 -- an order read its cell back, in this pass
@@ -147,7 +147,7 @@ learned s output (Some shape) =
 abbrev pub mode_taken : Summary → ℕ → Result VoutMode TableFault → Change
 mode_taken s output (Err fault) = learned s output None
 mode_taken s output (Ok (Linear exponent)) = learned s output (Some (InUlinear16 exponent))
-mode_taken s output (Ok Direct) = goes_on s (Asks (Coefficients output) 0)
+mode_taken s output (Ok Direct) = goes_on_at s (Asks (Coefficients output) 0)
 
 -- a good answer to a question has this payload
 abbrev pub answer_taken : Summary → Question → List ℕ → Change
@@ -157,35 +157,35 @@ answer_taken s (Coefficients output) payload =
     learned s output (result_ok (shape_in Direct (coefficients_of payload)))
 
 -- a question got a good answer, or is asked again
-abbrev pub asked : Summary → Question → ℕ → Option (List ℕ) → Change
-asked s question tries None = another s question tries
-asked s question tries (Some payload) = answer_taken s question payload
+abbrev pub question_answered : Summary → Question → ℕ → Option (List ℕ) → Change
+question_answered s question tries None = another s question tries
+question_answered s question tries (Some payload) = answer_taken s question payload
 
 -- the frame of a write was sent, and acknowledged or not
 abbrev pub finished : Summary → Option Stage → Bool → Change
-finished s (Some (Writes cell word pass)) acked = goes_on s (Reads cell word pass)
+finished s (Some (Writes cell word pass)) acked = goes_on_at s (Reads cell word pass)
 finished s (Some (Sends command tries)) acked =
     if acked then ends s Done
     else (if tries + 1 == s.setup.passes then ends s Unknown else sends s command (tries + 1))
 finished s stage acked = stays s stage
 
 -- bytes came back for a request
-abbrev pub answered : Summary → Option Stage → List ℕ → Change
-answered s (Some (Reads cell word pass)) bytes =
+abbrev pub request_answered : Summary → Option Stage → List ℕ → Change
+request_answered s (Some (Reads cell word pass)) bytes =
     read_back s cell word pass (good_word s.setup.addr cell bytes)
-answered s (Some (Asks question tries)) bytes =
-    asked s question tries (good_payload s.setup.addr (question_message question) bytes)
-answered s stage bytes = stays s stage
+request_answered s (Some (Asks question tries)) bytes =
+    question_answered s question tries (good_payload s.setup.addr (question_message question) bytes)
+request_answered s stage bytes = stays s stage
 
 abbrev pub change : Summary → Entry → Change
 change s (Accepted job) = begins s job
 change s (Finished acked) = finished (idle s) s.stage acked
-change s (Got bytes) = answered (idle s) s.stage bytes
+change s (Got bytes) = request_answered (idle s) s.stage bytes
 change s Restarted = record { after = start s.setup; step = Next }
 
 -- the summary after one more entry, and what the call that brings it answers
-unfoldable pub next : Summary → Entry → Summary
-next s entry = (change s entry).after
+unfoldable pub host_next : Summary → Entry → Summary
+host_next s entry = (change s entry).after
 
 unfoldable pub step_of : Summary → Entry → Step
 step_of s entry = (change s entry).step

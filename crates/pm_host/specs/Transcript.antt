@@ -81,9 +81,9 @@ abbrev pub is_write_turn : List Entry → Bool
 is_write_turn told = length told % 2 == 0
 
 -- how an order ends whose last pass is over, by what its read gave
-abbrev pub last_end : Option ℕ → JobEnd
-last_end None = Unknown
-last_end (Some word) = Differs word
+abbrev pub last_pass_end : Option ℕ → JobEnd
+last_pass_end None = Unknown
+last_pass_end (Some word) = Differs word
 
 -- An order: after a whole pass, of a write and a read, it is done where the read gave the ordered
 -- word, and over where that was the last pass.
@@ -93,7 +93,7 @@ order_end setup cell word (entry ∷ before) =
     let read = newest_word setup cell (entry ∷ before) in
     if not (is_write_turn (entry ∷ before)) then None
     else (if option_map_or (λ found. found == word) read false then Some Done
-    else (if length (entry ∷ before) == 2 * setup.passes then Some (last_end read)
+    else (if length (entry ∷ before) == 2 * setup.passes then Some (last_pass_end read)
     else None))
 
 -- A check: the first good answer ends it.
@@ -109,41 +109,41 @@ send_end setup told =
     else (if length told == setup.passes then Some Unknown else None)
 
 -- A learn reads VOUT_MODE up to the first good answer, which is this byte.
-abbrev pub mode_told : Setup → ℕ → List Entry → Option ℕ
-mode_told setup output [] = None
-mode_told setup output (Got bytes ∷ before) =
-    option_or (mode_told setup output before) (good_mode setup.addr output bytes)
-mode_told setup output (_ ∷ before) = mode_told setup output before
+abbrev pub vout_mode_told : Setup → ℕ → List Entry → Option ℕ
+vout_mode_told setup output [] = None
+vout_mode_told setup output (Got bytes ∷ before) =
+    option_or (vout_mode_told setup output before) (good_mode setup.addr output bytes)
+vout_mode_told setup output (_ ∷ before) = vout_mode_told setup output before
 
 -- A learn that has read VOUT_MODE reads COEFFICIENTS from then on, for DIRECT, up to the first good answer, which is this.
 abbrev pub coefficients_told : Setup → ℕ → List Entry → Option Coefficients
 coefficients_told setup output [] = None
 coefficients_told setup output (Got bytes ∷ before) =
     option_or (coefficients_told setup output before)
-    (if is_some (mode_told setup output before) then good_coefficients setup.addr bytes else None)
+    (if is_some (vout_mode_told setup output before) then good_coefficients setup.addr bytes else None)
 coefficients_told setup output (_ ∷ before) = coefficients_told setup output before
 
 -- The tries at COEFFICIENTS of a learn: the entries that came once a good answer for VOUT_MODE was told.
 abbrev pub coefficients_tries : Setup → ℕ → List Entry → ℕ
 coefficients_tries setup output [] = 0
 coefficients_tries setup output (entry ∷ before) =
-    if is_some (mode_told setup output before) then suc (coefficients_tries setup output before)
+    if is_some (vout_mode_told setup output before) then suc (coefficients_tries setup output before)
     else 0
 
 -- What a learn found, once it has ended: a format, or None where there is none. A byte of VOUT_MODE
 -- has no format by C1 to C4, coefficients have none by N1 and N2.
-abbrev pub found_by : Setup → Option (Result VoutMode TableFault) → Option Coefficients → ℕ → ℕ → Option (Option Shape)
-found_by setup None coefficients tries later = if tries == setup.passes then Some None else None
-found_by setup (Some (Err fault)) coefficients tries later = Some None
-found_by setup (Some (Ok (Linear exponent))) coefficients tries later =
+abbrev pub learn_found : Setup → Option (Result VoutMode TableFault) → Option Coefficients → ℕ → ℕ → Option (Option Shape)
+learn_found setup None coefficients tries later = if tries == setup.passes then Some None else None
+learn_found setup (Some (Err fault)) coefficients tries later = Some None
+learn_found setup (Some (Ok (Linear exponent))) coefficients tries later =
     Some (Some (InUlinear16 exponent))
-found_by setup (Some (Ok Direct)) None tries later =
+learn_found setup (Some (Ok Direct)) None tries later =
     if later == setup.passes then Some None else None
-found_by setup (Some (Ok Direct)) (Some coefficients) tries later =
+learn_found setup (Some (Ok Direct)) (Some coefficients) tries later =
     Some (result_ok (shape_in Direct coefficients))
 
 abbrev pub found : Setup → ℕ → List Entry → Option (Option Shape)
-found setup output told = found_by setup (option_map mode_of (mode_told setup output told))
+found setup output told = learn_found setup (option_map mode_of (vout_mode_told setup output told))
     (coefficients_told setup output told) (length told) (coefficients_tries setup output told)
 
 abbrev pub learn_end : Setup → ℕ → List Entry → Option JobEnd
@@ -163,17 +163,17 @@ job_message setup (Order cell word) told =
     if is_write_turn told then cell_write cell word else cell_read cell
 job_message setup (Check cell) told = cell_read cell
 job_message setup (Learn output) told =
-    if is_some (mode_told setup output told) then coefficients_read else mode_read output
+    if is_some (vout_mode_told setup output told) then coefficients_read else mode_read output
 job_message setup (Send command) told = command_message command
 
 -- the end of the last job since the last restart; None while it is open, and where there is none
-unfoldable pub end_of : Setup → List Entry → Option JobEnd
-end_of setup entries =
+unfoldable pub last_job_end : Setup → List Entry → Option JobEnd
+last_job_end setup entries =
     option_and_then (λ job. job_end setup job (told_since entries)) (last_job entries)
 
 -- the job that is open
 unfoldable pub open_job : Setup → List Entry → Option Job
-open_job setup entries = if is_none (end_of setup entries) then last_job entries else None
+open_job setup entries = if is_none (last_job_end setup entries) then last_job entries else None
 
 -- the message whose frame is being sent; None where no job is open
 unfoldable pub sending_of : Setup → List Entry → Option Message

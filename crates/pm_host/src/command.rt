@@ -2,7 +2,7 @@
 
 ghost use Rattle.std.specs.Prelude.{◌≡◌, Some, IfSome};
 ghost use Rattle.pm_host.specs.Cells.{is_command};
-ghost use Rattle.pm_host.specs.Command.{command_code, command_of, command_output};
+ghost use Rattle.pm_host.specs.Command.{command_code, command_of_code, command_output};
 
 use pm_table::Code;
 
@@ -29,7 +29,7 @@ impl Command {
     /// Its command code. `of` leads back from it and the output that the command names.
     pub(crate) fn code(self) -> Code
         ensures code { result.0 ≡ command_code self }
-        ensures back { command_of result.0 (command_output self) ≡ Some self }
+        ensures back { command_of_code result.0 (command_output self) ≡ Some self }
     {
         match self {
             Command::ClearFaults { .. } => Code::CLEAR_FAULTS,
@@ -50,7 +50,7 @@ impl Command {
 
     /// The command of a code, at an output or at the device; `None` if no job sends the code there.
     pub(crate) fn of(code: Code, output: Option<u8>) -> Option<Command>
-        ensures command { result ≡ command_of code.0 output }
+        ensures command { result ≡ command_of_code code.0 output }
         ensures code { IfSome result (λ command. command_code command ≡ code.0) }
         ensures output { IfSome result (λ command. command_output command ≡ output) }
     {

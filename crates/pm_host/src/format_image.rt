@@ -7,7 +7,7 @@ ghost use Rattle.pm_table.specs.Coefficients.{coefficients_of};
 ghost use Rattle.pm_table.specs.Format.{shape_in};
 ghost use Rattle.pm_table.specs.VoutMode.{exponent_of};
 ghost use Rattle.pm_host.specs.Image.{format_held};
-ghost use Rattle.pm_host.specs.Memory.{IsFormat};
+ghost use Rattle.pm_host.specs.Memory.{IsFormatImage};
 
 use pm_num::{AnyFormat, Ulinear16, VoltageFormat};
 use pm_table::{Coefficients, VoutMode, voltage_format_of};
@@ -36,7 +36,7 @@ impl FormatImage {
     pub(crate) fn linear(mode: u8) -> FormatImage
         requires { mode < 32 }
         ensures held { format_held result ≡ Some (InUlinear16 (exponent_of mode)) }
-        ensures written { IsFormat result }
+        ensures written { IsFormatImage result }
     {
         FormatImage {
             mode,
@@ -48,7 +48,7 @@ impl FormatImage {
     pub(crate) fn direct(payload: &[u8]) -> FormatImage
         requires { length payload.now ≡ 5 }
         ensures held { format_held result ≡ result_ok (shape_in VoutMode.Direct (coefficients_of payload.now)) }
-        ensures written { IsFormat result }
+        ensures written { IsFormatImage result }
     {
         FormatImage {
             mode: FormatImage::DIRECT,

@@ -13,7 +13,7 @@ ghost use Rattle.pm_host.specs.Jobs.{Begins};
 ghost use Rattle.pm_host.specs.Messages.{IsFrameOf};
 ghost use Rattle.pm_host.specs.Refusals.{IsSetup, setup_fault, may_come, sends_read};
 ghost use Rattle.pm_host.specs.Sound.{IsSound};
-ghost use Rattle.pm_host.specs.Summary.{start, next, step_of, possible_at, standing_at, format_at, sending_in};
+ghost use Rattle.pm_host.specs.Summary.{start, host_next, step_of, possible_at, standing_at, format_at, sending_in};
 ghost use Rattle.pm_host.specs.Told.{entry_told, OnEnded};
 ghost use Rattle.pm_host.specs.Transcript.{Setup, Restarted};
 ghost use Rattle.pm_host.specs.Turn.{Shows};
@@ -259,7 +259,7 @@ impl Host {
     /// `Learned` has left a format, any other end keeps the formats. `Step::Next` keeps the job.
     pub fn told(&mut self, told: Told<'_>) -> Step
         requires { may_come self.old (entry_told told) ≡ true }
-        ensures after { self.new ≡ next self.old (entry_told told.entry) }
+        ensures after { self.new ≡ host_next self.old (entry_told told.entry) }
         ensures step { result ≡ step_of self.old (entry_told told.entry) }
         ensures tells { StepTells self.old (entry_told told.entry) result self.new }
         ensures kept { self.new.setup ≡ self.old.setup }
@@ -282,9 +282,9 @@ impl Host {
     }
 
     /// Drops the open job and all that is known of cells and formats, as after `new`.
-    #[tactic(auto, unfolding(crate::specs::Summary::next))]
+    #[tactic(auto, unfolding(crate::specs::Summary::host_next))]
     pub fn restart(&mut self)
-        ensures after { self.new ≡ next self.old Restarted }
+        ensures after { self.new ≡ host_next self.old Restarted }
         ensures kept { self.new.setup ≡ self.old.setup }
         ensures left { frames_left self.new ≡ 0 }
     {

@@ -2,11 +2,11 @@
 
 ghost use Rattle.std.specs.Prelude.{◌≡◌, ◌&&◌, true, false, slice_set};
 ghost use Rattle.pm_table.specs.Cell.{place_of, IsCell};
-ghost use Rattle.pm_host.specs.Image.{is_unknown, known_held, words_held, standing_held};
+ghost use Rattle.pm_host.specs.Image.{is_unconfirmed, known_held, words_held, standing_held};
 ghost use Rattle.pm_host.specs.Possible.{is_possible, has_room, only};
 ghost use Rattle.pm_host.specs.Known.{HasPlaces, known_possible, known_standing, known_after, nothing_known};
 ghost use Rattle.pm_host.specs.Marks.{Put, Good, Restored};
-ghost use Rattle.pm_host.specs.Memory.{AreWords, IsKnown, IsSaid};
+ghost use Rattle.pm_host.specs.Memory.{IsWordsImage, IsKnown, IsStandingImage};
 
 use crate::standing_image::StandingImage;
 use crate::words_image::WordsImage;
@@ -83,7 +83,7 @@ impl Knowledge {
     pub fn possible(&self, cell: Cell) -> &WordsImage
         requires { IsCell 8 cell }
         ensures held { words_held result.now ≡ known_possible (known_held self.now) cell }
-        ensures written { IsKnown self.now → AreWords result.now }
+        ensures written { IsKnown self.now → IsWordsImage result.now }
     {
         &self.possible[cell.place()]
     }
@@ -93,7 +93,7 @@ impl Knowledge {
     pub fn standing(&self, cell: Cell) -> StandingImage
         requires { IsCell 8 cell }
         ensures held { standing_held result ≡ known_standing (known_held self.now) cell }
-        ensures written { IsKnown self.now → IsSaid result }
+        ensures written { IsKnown self.now → IsStandingImage result }
     {
         self.standing[cell.place()]
     }
@@ -103,7 +103,7 @@ impl Knowledge {
     pub(crate) fn is_open(&self, cell: Cell, word: u16) -> bool
         requires { IsCell 8 cell }
         ensures { result ≡ (is_possible word (known_possible (known_held self.now) cell)
-            && is_unknown (known_standing (known_held self.now) cell)) }
+            && is_unconfirmed (known_standing (known_held self.now) cell)) }
     {
         let place = cell.place();
         self.possible[place].allows(word) && self.standing[place].standing() == Standing::Unknown
@@ -128,7 +128,7 @@ impl Knowledge {
         ensures seen { (known_held self.new).seen ≡ (known_held self.old).seen }
         ensures words { known_possible (known_held self.new) cell ≡ words_held words }
         ensures said { known_standing (known_held self.new) cell ≡ standing_held said }
-        ensures written { IsKnown self.old → AreWords words → IsSaid said → IsKnown self.new }
+        ensures written { IsKnown self.old → IsWordsImage words → IsStandingImage said → IsKnown self.new }
     {
         let place = cell.place();
         self.possible[place] = words;

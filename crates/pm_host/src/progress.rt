@@ -1,7 +1,7 @@
 //! A job's next stage or its end.
 
 ghost use Rattle.std.specs.Prelude.{◌≡◌};
-ghost use Rattle.pm_host.specs.Progress.{stage_after, step_after};
+ghost use Rattle.pm_host.specs.Progress.{stage_of_progress, step_of_progress};
 
 use crate::host::Step;
 use crate::job::JobEnd;
@@ -19,7 +19,7 @@ pub enum Progress {
 impl Progress {
     /// The stage of the open job; `None` if none is open.
     pub fn stage(self) -> Option<Stage>
-        ensures { result ≡ stage_after self }
+        ensures { result ≡ stage_of_progress self }
     {
         match self {
             Progress::At(stage) => Some(stage),
@@ -29,7 +29,7 @@ impl Progress {
 
     /// What a call answers that says what became of the frame.
     pub fn step(self) -> Step
-        ensures { result ≡ step_after self }
+        ensures { result ≡ step_of_progress self }
     {
         match self {
             Progress::At(_) => Step::Next,

@@ -3,7 +3,7 @@
 ghost use Rattle.std.specs.Prelude.{◌≡◌};
 ghost use Rattle.pm_table.specs.Address.{IsAddress};
 ghost use Rattle.pm_host.specs.Messages.{IsFrameOf};
-ghost use Rattle.pm_host.specs.Sound.{HasWord};
+ghost use Rattle.pm_host.specs.Sound.{AcceptsWrittenWord};
 ghost use Rattle.pm_host.specs.Summary.{stage_message};
 
 use crate::stage::Stage;
@@ -21,7 +21,7 @@ impl Sending {
     /// What the stage sends to a device.
     pub(crate) fn of(stage: Stage, address: u8) -> Sending
         requires address { IsAddress address }
-        requires word { HasWord stage }
+        requires word { AcceptsWrittenWord stage }
         ensures stage { result.stage ≡ stage }
         ensures message { result.message ≡ stage_message stage }
         ensures frame { IsFrameOf address result.message result.frame.items }

@@ -25,13 +25,13 @@ pub enum Stage {
 }
 
 impl Stage {
-    ghost use Rattle.pm_host.specs.Sound.{HasWord};
+    ghost use Rattle.pm_host.specs.Sound.{AcceptsWrittenWord};
     ghost use Rattle.pm_host.specs.Told.{is_awaited};
 
     /// The message whose frame is sent. A call of it would take 48 instructions of an order of a caller in C.
     #[inline(always)]
     pub fn message(&self) -> Message
-        requires { HasWord self.now }
+        requires { AcceptsWrittenWord self.now }
         ensures message { result ≡ stage_message self.now }
         ensures fits { fits_layout result ≡ true }
     {

@@ -10,10 +10,10 @@ ghost use Rattle.pm_table.specs.Address.{IsAddress};
 ghost use Rattle.pm_host.specs.Frames.{frames_left};
 ghost use Rattle.pm_host.specs.Image.{held};
 ghost use Rattle.pm_host.specs.Memory.{IsState};
-ghost use Rattle.pm_host.specs.Progress.{stage_after, step_after};
+ghost use Rattle.pm_host.specs.Progress.{stage_of_progress, step_of_progress};
 ghost use Rattle.pm_host.specs.Refusals.{setup_fault, IsSetup, may_come};
 ghost use Rattle.pm_host.specs.Sound.{IsSound};
-ghost use Rattle.pm_host.specs.Summary.{start, next, step_of};
+ghost use Rattle.pm_host.specs.Summary.{start, host_next, step_of};
 ghost use Rattle.pm_host.specs.Told.{entry_told};
 ghost use Rattle.pm_host.specs.Transcript.{Setup};
 
@@ -71,7 +71,7 @@ impl State {
     }
 
     /// Makes it the state of a host as `Host::new` does, whatever it was. No job is open.
-    #[tactic(auto, unfolding(crate::specs::Summary::next))]
+    #[tactic(auto, unfolding(crate::specs::Summary::host_next))]
     pub fn start(&mut self, addr: u8, outputs: u8, passes: u8) -> Result<(), HostFault>
         requires { IsAddress addr }
         ensures made { let setup : Setup = record { addr = addr; outputs = outputs; passes = passes } in
@@ -95,15 +95,15 @@ impl State {
     }
 
     /// What became of the frame that the stage of the open job sent, as `Host::told`.
-    #[tactic(auto, unfolding(crate::specs::Summary::next, crate::specs::Summary::step_of))]
+    #[tactic(auto, unfolding(crate::specs::Summary::host_next, crate::specs::Summary::step_of))]
     pub fn told(&mut self, stage: Stage, told: Told<'_>) -> Progress
         requires sound { IsSound (held (Some stage) self.old) }
         requires may_come { may_come (held (Some stage) self.old) (entry_told told) ≡ true }
-        ensures sound { IsSound (held (stage_after result) self.new) }
-        ensures after { held (stage_after result) self.new ≡ next (held (Some stage) self.old) (entry_told told.entry) }
-        ensures step { step_after result ≡ step_of (held (Some stage) self.old) (entry_told told.entry) }
+        ensures sound { IsSound (held (stage_of_progress result) self.new) }
+        ensures after { held (stage_of_progress result) self.new ≡ host_next (held (Some stage) self.old) (entry_told told.entry) }
+        ensures step { step_of_progress result ≡ step_of (held (Some stage) self.old) (entry_told told.entry) }
         ensures kept { (held None self.new).setup ≡ (held None self.old).setup }
-        ensures left { frames_left (held (stage_after result) self.new) < frames_left (held (Some stage) self.old) }
+        ensures left { frames_left (held (stage_of_progress result) self.new) < frames_left (held (Some stage) self.old) }
         ensures written { IsState self.old → IsState self.new }
     {
         match (stage, told) {
@@ -127,7 +127,7 @@ impl State {
 
     /// Forgets all that is known, as `Host::restart`. Only the setup of what it held has to be sound. No job
     /// is open.
-    #[tactic(auto, unfolding(crate::specs::Summary::next, crate::specs::Image::formats_held, crate::specs::Summary::no_formats))]
+    #[tactic(auto, unfolding(crate::specs::Summary::host_next, crate::specs::Image::formats_held, crate::specs::Summary::no_formats))]
     pub fn restart(&mut self)
         requires { IsSetup (held None self.old).setup }
         ensures sound { IsSound (held None self.new) }

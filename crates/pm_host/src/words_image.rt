@@ -2,7 +2,7 @@
 
 ghost use Rattle.std.specs.Prelude.{◌≡◌, true, false, MatchOption};
 ghost use Rattle.pm_host.specs.Image.{listing, words_held};
-ghost use Rattle.pm_host.specs.Memory.{AreWords};
+ghost use Rattle.pm_host.specs.Memory.{IsWordsImage};
 ghost use Rattle.pm_host.specs.Possible.{is_possible, has_room, is_listed as spec_is_listed, joined, only as spec_only};
 
 use crate::knowledge::Possible;
@@ -70,7 +70,7 @@ impl WordsImage {
         ensures joined { result ≡ true → words_held self.new ≡ joined (words_held self.old) word }
         ensures listed { result ≡ true → is_possible word (words_held self.new) ≡ true }
         ensures full { result ≡ false → self.new ≡ self.old }
-        ensures written { AreWords self.old → AreWords self.new }
+        ensures written { IsWordsImage self.old → IsWordsImage self.new }
     {
         if self.allows(word) {
             return true;
@@ -86,7 +86,7 @@ impl WordsImage {
     /// Exactly this word.
     pub(crate) fn only(word: u16) -> WordsImage
         ensures held { words_held result ≡ spec_only word }
-        ensures written { AreWords result }
+        ensures written { IsWordsImage result }
     {
         WordsImage {
             count: 1,

@@ -3,7 +3,7 @@
 ghost use Rattle.std.specs.Prelude.{◌≡◌, ◌≢◌, Some, IsSomeAnd};
 ghost use Rattle.pm_table.specs.Cell.{register_of};
 ghost use Rattle.pm_memory.specs.CourseImage.{course_in};
-ghost use Rattle.pm_memory.specs.Delivery.{idle};
+ghost use Rattle.pm_memory.specs.Delivery.{idle_host};
 ghost use Rattle.pm_memory.specs.Goal.{goal_number, IsGoalBy};
 
 use pm_memory::goal::{course_goal, register_in};
@@ -21,7 +21,7 @@ pub extern "C" fn pm_course_goal(
 ) -> u8
     ensures number { result ≡ goal_number host.now (course_in course.now) (register_of code) }
     ensures goal { result ≡ 0 → IsSomeAnd (course_in course.now) (λ c. IsSomeAnd (register_of code)
-        (λ register. IsGoalBy (idle host.now) c c.course.byte register (Some word.new))) }
+        (λ register. IsGoalBy (idle_host host.now) c c.course.byte register (Some word.new))) }
     ensures refused { result ≢ 0 → word.new ≡ word.old }
 {
     if host.host.read_stage().is_err() {

@@ -9,7 +9,7 @@ ghost use Rattle.pm_limits.specs.Part.{all_registers};
 ghost use Rattle.pm_memory.specs.Guard.{guard_of, registers_held, unknown_limits};
 ghost use Rattle.pm_memory.specs.Memory.{IsMemory};
 ghost use Rattle.pm_memory.specs.Sizes.{host_size, library_version};
-ghost use Rattle.pm_memory.specs.Host.{new_number, memory_number, after, BeginsJob};
+ghost use Rattle.pm_memory.specs.Host.{new_number, memory_number, host_after_entry, BeginsJob};
 
 use pm_host::{Command, HostImage, Job};
 use pm_limits::PartRegisters;
@@ -147,11 +147,11 @@ pub extern "C" fn pm_host_restore(host: &mut GuardImage) -> u8
 }
 
 /// Drops the open job and all that is known of cells and formats. The limits and the registers stay. E0h.
-#[tactic(auto, unfolding(pm_host::specs::Summary::next))]
+#[tactic(auto, unfolding(pm_host::specs::Summary::host_next))]
 #[unsafe(no_mangle)]
 pub extern "C" fn pm_host_restart(host: &mut GuardImage) -> u8
     ensures number { result ≡ memory_number (host_of host.old.host) }
-    ensures begun { host_of host.new.host ≡ after (host_of host.old.host) Restarted }
+    ensures begun { host_of host.new.host ≡ host_after_entry (host_of host.old.host) Restarted }
     ensures limits { host.new.limits ≡ host.old.limits }
     ensures registers { host.new.registers ≡ host.old.registers }
     ensures written { IsMemory host.old → IsMemory host.new }

@@ -3,7 +3,7 @@
 ghost use Rattle.std.specs.Prelude.{◌≡◌, not, ◌==◌};
 ghost use Rattle.pm_host.specs.Summary.{format_at};
 ghost use Rattle.pm_host.specs.Transcript.{Finished};
-ghost use Rattle.pm_memory.specs.Delivery.{asked_number, idle, judge_number, judgement_after};
+ghost use Rattle.pm_memory.specs.Delivery.{asked_number, idle_host, judge_number, judgement_after};
 ghost use Rattle.pm_memory.specs.Sequence.{sequence_begun, HearsIn, NextIn, ReadIn};
 ghost use Rattle.pm_memory.specs.Sizes.{sequence_size};
 ghost use Rattle.pm_memory.specs.SequenceImage.{sequence_version};
@@ -93,9 +93,9 @@ pub extern "C" fn pm_sequence_judge(
     judgement: &mut JudgementImage,
 ) -> u8
     ensures number { let refusal = asked_number host.now kept.now.look in
-        result ≡ judge_number refusal (format_at (idle host.now) kept.now.look.delivery.output) kept.now.look.delivery word }
+        result ≡ judge_number refusal (format_at (idle_host host.now) kept.now.look.delivery.output) kept.now.look.delivery word }
     ensures judgement { let refusal = asked_number host.now kept.now.look in
-        judgement.new ≡ judgement_after refusal (format_at (idle host.now) kept.now.look.delivery.output) kept.now.look.delivery word judgement.old }
+        judgement.new ≡ judgement_after refusal (format_at (idle_host host.now) kept.now.look.delivery.output) kept.now.look.delivery word judgement.old }
 {
     let number = refusal(&kept.look, host);
     if number != ACCEPTED {

@@ -2,7 +2,7 @@
 
 ghost use Rattle.std.specs.Prelude.{◌≡◌, not, ◌==◌};
 ghost use Rattle.pm_host.specs.Transcript.{Finished, Got};
-ghost use Rattle.pm_memory.specs.Host.{TellsHost, IsSent, memory_number};
+ghost use Rattle.pm_memory.specs.Host.{TellsHost, IsHostSending, memory_number};
 ghost use Rattle.pm_host.specs.Image.{host_of};
 
 use pm_host::Told;
@@ -15,7 +15,7 @@ use pm_memory::{GuardImage, SendingImage};
 #[unsafe(no_mangle)]
 pub extern "C" fn pm_host_frame(host: &GuardImage, sending: &mut SendingImage) -> u8
     ensures number { result ≡ memory_number (host_of host.now.host) }
-    ensures frame { IsSent (host_of host.now.host) sending.new }
+    ensures frame { IsHostSending (host_of host.now.host) sending.new }
 {
     put_frame(host, sending)
 }

@@ -23,7 +23,7 @@ use Rattle.pm_course_laws.specs.FramesBeside.{BeginsBeside}
 use Rattle.pm_world.specs.Setup.{setup_of}
 use Rattle.pm_world.specs.State.{State}
 use Rattle.pm_world.specs.Uncertainty.{Choice, Leaves, due_before, since_restart, witness_events, witness_start}
-use Rattle.pm_part_laws.specs.Happenings.{Happening, IsLifeBeside, beside, told}
+use Rattle.pm_part_laws.specs.Happenings.{Happening, IsLifeBeside, beside, entries_beside}
 
 -- the part as it was when the host began, how many passes the host's jobs have at most, and what happened since
 pub record PartLife : Type 0 where
@@ -46,7 +46,7 @@ pub record LedTo (life : PartLife) (host : Summary) (device : Held) : Type 0 whe
 abbrev pub IsLeft : PartLife → Choice → Type 0
 IsLeft life chosen =
     let setup = setup_of life.held.config life.passes in
-    let entries = since_restart (told life.held life.passes life.happened) in
+    let entries = since_restart (entries_beside life.held life.passes life.happened) in
     Leaves life.held.config life.passes entries chosen (witness_start life.held.config (due_before chosen (marks setup entries)))
     (witness_events setup chosen entries)
 
@@ -59,8 +59,9 @@ pub record GuardedLife : Type 0 where
 
 -- A course to wishes that says `Reached` of an output of a part with every register: the part holds each wanted word, if it didn't restart
 -- since the course began.
-abbrev pub ReachedIsHeld : PartLife → Summary → Held → Type 0
-ReachedIsHeld life host device = (output : ℕ) (words wanted : Wanted) (voltages : Voltages) (tries : ℕ) (c is : FrameCourse) (own : Bool)
+abbrev pub ReachedIsHeldByPart : PartLife → Summary → Held → Type 0
+ReachedIsHeldByPart life host device =
+    (output : ℕ) (words wanted : Wanted) (voltages : Voltages) (tries : ℕ) (c is : FrameCourse) (own : Bool)
     (limits : OutputLimits) (register : Reg) (word : ℕ) (later before : List Happening) → life.happened ≡ later ++ before →
     Means life.held.config output words voltages wanted →
     BeginsBeside life.held life.passes all_registers (going_on (course_of output words tries) voltages) c own later before →

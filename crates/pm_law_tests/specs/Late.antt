@@ -3,7 +3,7 @@ use Rattle.std.specs.Prelude.{◌≡◌, ℕ, List}
 use Rattle.pm_table.specs.declared.cell.Cell.{Cell}
 use Rattle.pm_table.specs.Cell.{IsCell}
 use Rattle.pm_model.specs.Settings.{Words}
-use Rattle.pm_host.specs.Now.{now}
+use Rattle.pm_host.specs.Now.{host_now}
 use Rattle.pm_host.specs.Summary.{Summary}
 use Rattle.pm_host.specs.Transcript.{Setup}
 use Rattle.pm_part_laws.specs.Late.{Both, Event, IsLate, both_after}
@@ -16,11 +16,11 @@ pub record LateLife : Type 0 where
   pub stored : Words
   pub events : List Event
 
-abbrev pub both_in : LateLife → Both
-both_in life = both_after life.setup life.held life.stored life.events
+abbrev pub both_in_late_life : LateLife → Both
+both_in_late_life life = both_after life.setup life.held life.stored life.events
 
 -- such a life led to this host, which knows this cell
 pub record Lived (life : LateLife) (host : Summary) (cell : Cell) : Type 0 where
   pub late : IsLate life.frames life.setup life.held life.stored life.events
-  pub is : host ≡ now life.setup (both_in life).entries
+  pub is : host ≡ host_now life.setup (both_in_late_life life).entries
   pub there : IsCell life.setup.outputs cell

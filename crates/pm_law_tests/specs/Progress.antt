@@ -34,7 +34,7 @@ use Rattle.pm_course_laws.specs.Reached.{HoldsWanted}
 use Rattle.pm_course_laws.specs.FramesBeside.{IsFrameCourseBeside}
 use Rattle.pm_course_laws.specs.ReachedBeside.{HoldsWantedBeside}
 use Rattle.pm_part_laws.specs.Happenings.{Happening, beside, restarts}
-use Rattle.pm_part_laws.specs.Surveys.{AreRead as PartAreRead, MissingUnread as PartUnread}
+use Rattle.pm_part_laws.specs.Surveys.{AreRead as PartAreRead, MissingUnreadBeside as PartUnread}
 use Rattle.pm_law_tests.specs.Beside.{PartLife, both_in}
 use Rattle.pm_limits.specs.Guard.{limits_at}
 

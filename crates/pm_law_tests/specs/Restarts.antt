@@ -24,12 +24,12 @@ use Rattle.pm_world.specs.Limited.{commands}
 use Rattle.pm_world.specs.Mixed.{LiesAmong}
 use Rattle.pm_world.specs.Plans.{held_at}
 use Rattle.pm_part_laws.specs.Happenings.{EachAsks, Happening, beside, restarts}
-use Rattle.pm_part_laws.specs.OwnWords.{commands as part_commands}
-use Rattle.pm_part_laws.specs.Surveys.{held_at as part_held}
+use Rattle.pm_part_laws.specs.OwnWords.{commands_beside as part_commands}
+use Rattle.pm_part_laws.specs.Surveys.{held_at_beside as part_held}
 use Rattle.pm_course_laws.specs.Restarts.{AsksNoStore, IsNoStore}
-use Rattle.pm_course_laws.specs.Between.{stored_at as part_stored}
+use Rattle.pm_course_laws.specs.Between.{stored_at_beside as part_stored}
 use Rattle.pm_course_laws.specs.FrameLives.{IsFrameCourse, Means}
-use Rattle.pm_course_laws.specs.FramesBeside.{IsFrameCourseBeside, goal_at as part_goal}
+use Rattle.pm_course_laws.specs.FramesBeside.{IsFrameCourseBeside, goal_at_beside as part_goal}
 use Rattle.pm_law_tests.specs.Beside.{PartLife}
 
 -- At each moment of these events after a restart of the part, since a course began, the output commands a value between its start value and

@@ -13,15 +13,15 @@ use Rattle.pm_stairs.specs.declared.stairs.Stairs.{Stairs}
 use Rattle.pm_stairs.specs.declared.step.Step.{Step}
 use Rattle.pm_stairs.specs.declared.step.WordStep.{WordStep}
 use Rattle.pm_stairs.specs.Stairs.{Goes}
-use Rattle.pm_stairs.specs.Steps.{step_of}
+use Rattle.pm_stairs.specs.Steps.{step_of_words}
 use Rattle.pm_world.specs.declared.event.Event.{Event}
 use Rattle.pm_world.specs.Life.{now}
 use Rattle.pm_world.specs.Lived.{IsLived}
 use Rattle.pm_world.specs.Moves.{words_at}
 use Rattle.pm_sequence_laws.specs.Back.{GoesBack, counted_step, downs_of}
-use Rattle.pm_sequence_laws.specs.Climb.{IsClimb, IsGuardAt, first, rail_steps}
+use Rattle.pm_sequence_laws.specs.Climb.{IsClimb, IsGuardAt, first_step_ahead, rail_steps}
 use Rattle.pm_sequence_laws.specs.Ordered.{OrdersOnly}
-use Rattle.pm_sequence_laws.specs.Stairs.{AreOver, AreSound, IsStairs, RailStep, counts_at, start_of}
+use Rattle.pm_sequence_laws.specs.Stairs.{AreOver, AreSound, IsStairs, RailStep, counts_at, stair_start_of}
 
 -- a cell takes what is ordered for it, and nothing else
 abbrev pub CellsTake : Config → ℕ → List Event → Type 0
@@ -41,7 +41,7 @@ StopsHaveAWayBack config passes events = (part : PartRegisters) (before : List E
 abbrev pub ComesBack : Config → ℕ → List Event → Type 0
 ComesBack config passes events = (part : PartRegisters) (before stop : List Event) (step : RailStep) (newest downs : List RailStep) →
     AreSound config passes part before (step ∷ newest) → IsStairs config passes part before (step ∷ newest) stop →
-    map counted_step downs ≡ downs_of (start_of config passes before) (step ∷ newest) [] [] →
+    map counted_step downs ≡ downs_of (stair_start_of config passes before) (step ∷ newest) [] [] →
     IsStairs config passes part stop downs events → AreOver config passes part downs events →
     (output : ℕ) (register : Reg) → output < config.count →
     counts_at config passes events output register ≡ counts_at config passes before output register
@@ -52,6 +52,6 @@ ClimbsReturn config passes events = (part : PartRegisters) (steps : List Step) (
     (ahead : List Step) (stairs : Stairs) (stop : List Event) (downs ups : List WordStep) (left : List Step) (back new : Stairs)
     (g : Guarded) (tries : ℕ) → IsLived config passes stop →
     IsClimb config passes part steps before begun backs ahead stairs stop → AreSound config passes part before (rail_steps begun) →
-    IsClimb config passes part (map step_of backs) stop downs ups left back events → IsGuardAt config passes part events g →
-    Goes g tries (first left) back Reached new → (output : ℕ) (register : Reg) → output < config.count →
+    IsClimb config passes part (map step_of_words backs) stop downs ups left back events → IsGuardAt config passes part events g →
+    Goes g tries (first_step_ahead left) back Reached new → (output : ℕ) (register : Reg) → output < config.count →
     counts_at config passes events output register ≡ counts_at config passes before output register

@@ -25,7 +25,7 @@ ghost use Rattle.pm_limits.specs.Part.{all_registers};
 ghost use Rattle.pm_limits.specs.declared.band.Band.{Band as Interval};
 ghost use Rattle.pm_limits.specs.declared.output_limits.OutputLimits.TheVariants.{Between, Unlimited};
 ghost use Rattle.pm_log.specs.declared.claim.Claim.TheVariants.{Holds};
-ghost use Rattle.pm_log_laws.specs.CheckedBeside.{TellsLog};
+ghost use Rattle.pm_log_laws.specs.CheckedBeside.{TellsLogBeside};
 ghost use Rattle.pm_rail.specs.Survey.{is_surveyed};
 ghost use Rattle.pm_rail.specs.declared.survey.Survey.{Survey};
 ghost use Rattle.pm_world.specs.Bands.{AreShort};
@@ -39,15 +39,15 @@ ghost use Rattle.pm_world.specs.Uncertainty.{AreOpen, ArePossible, Choice, since
 ghost use Rattle.pm_world.specs.declared.event.Event.{Event};
 ghost use Rattle.pm_world.specs.declared.event.Event.TheVariants.{Check};
 ghost use Rattle.pm_part_laws.specs.Alike.{LivesAlike};
-ghost use Rattle.pm_part_laws.specs.Answers.{restarted_since, restarted_since_host};
-ghost use Rattle.pm_part_laws.specs.Happenings.{Happening, Happens, Hears, begins_another, beside, restarts, told};
-ghost use Rattle.pm_part_laws.specs.HonestOrders.{events_in, honest_frames};
-ghost use Rattle.pm_part_laws.specs.Limits.{AreGuarded, BandStands, BeginsWithin};
-ghost use Rattle.pm_part_laws.specs.Moves.{MovesBy, words_at};
+ghost use Rattle.pm_part_laws.specs.Answers.{restarted_since_beside, restarted_since_host_beside};
+ghost use Rattle.pm_part_laws.specs.Happenings.{Happening, Happens, Hears, begins_another, beside, restarts, entries_beside};
+ghost use Rattle.pm_part_laws.specs.HonestOrders.{events_among, honest_frames};
+ghost use Rattle.pm_part_laws.specs.Limits.{AreGuardedBeside, BandStandsBeside, BeginsWithin};
+ghost use Rattle.pm_part_laws.specs.Moves.{MovesBy, words_at_beside};
 ghost use Rattle.pm_part_laws.specs.OpenJobs.{ComeWholeBeside, ComesWholeBeside, good_end_at, turn_at};
-ghost use Rattle.pm_part_laws.specs.OwnWords.{CommandsOwn, commands};
+ghost use Rattle.pm_part_laws.specs.OwnWords.{CommandsOwn, commands_beside};
 ghost use Rattle.pm_part_laws.specs.Surveys.{AreRead, IsOneValue};
-ghost use Rattle.pm_law_tests.specs.Beside.{GuardedLife, IsLeft, LedTo, PartLife, ReachedIsHeld, both_in};
+ghost use Rattle.pm_law_tests.specs.Beside.{GuardedLife, IsLeft, LedTo, PartLife, ReachedIsHeldByPart, both_in};
 
 use pm_course_laws::frame_courses_hold_beside;
 use pm_device::{Config, Converter, Ending, Heard};
@@ -134,7 +134,7 @@ pub fn a_confirmed_word(host: &Host, device: &Converter, cell: Place) -> Option<
     ghost life: { PartLife }
     requires led { LedTo life host.now device.now }
     requires there { IsCell life.held.config.count cell }
-    ensures { restarted_since life.held life.passes cell life.happened ≡ false →
+    ensures { restarted_since_beside life.held life.passes cell life.happened ≡ false →
         IfSome result (λ word. word_at device.now.words cell ≡ word) }
 {
     confirmed_beside();
@@ -149,7 +149,7 @@ pub fn a_possible_word(host: &Host, device: &Converter, cell: Place) -> Possible
     ghost life: { PartLife }
     requires led { LedTo life host.now device.now }
     requires there { IsCell life.held.config.count cell }
-    ensures { restarted_since life.held life.passes cell life.happened ≡ false →
+    ensures { restarted_since_beside life.held life.passes cell life.happened ≡ false →
         is_possible (word_at device.now.words cell) result ≡ true }
 {
     possible_beside();
@@ -160,7 +160,7 @@ pub fn a_possible_word(host: &Host, device: &Converter, cell: Place) -> Possible
 pub fn a_seen_restart(host: &Host, device: &Converter) -> bool
     ghost life: { PartLife }
     requires led { LedTo life host.now device.now }
-    ensures { result ≡ true → restarted_since_host life.happened ≡ true }
+    ensures { result ≡ true → restarted_since_host_beside life.happened ≡ true }
 {
     seen_beside();
     host.restart_seen()
@@ -170,8 +170,8 @@ pub fn a_seen_restart(host: &Host, device: &Converter) -> bool
 pub fn a_choice_of_possible_words(host: &Host, device: &Converter)
     ghost life: { PartLife }
     requires led { LedTo life host.now device.now }
-    ensures { (chosen : Choice) → restarted_since_host life.happened ≡ false →
-        AreOpen (marks (setup_of life.held.config life.passes) (since_restart (told life.held life.passes life.happened))) →
+    ensures { (chosen : Choice) → restarted_since_host_beside life.happened ≡ false →
+        AreOpen (marks (setup_of life.held.config life.passes) (since_restart (entries_beside life.held life.passes life.happened))) →
         ArePossible life.held.config host.now chosen → IsLeft life chosen }
 {
     exact_beside();
@@ -183,7 +183,7 @@ pub fn a_voltage_of_its_own(host: &Host, device: &Converter, output: u8) -> Frac
     requires led { LedTo life host.now device.now }
     requires there { output < life.held.config.count }
     ensures own { CommandsOwn life.held life.passes life.happened output }
-    ensures is { result ≡ commands life.held life.passes life.happened output }
+    ensures is { result ≡ commands_beside life.held life.passes life.happened output }
 {
     own_words_beside();
     device.commanded(output)
@@ -195,7 +195,7 @@ pub fn a_word_that_moves(host: &Host, device: &Converter, cell: Place)
     requires led { LedTo life host.now device.now }
     requires there { IsCell life.held.config.count cell }
     ensures { (one : Happening) (before : List Happening) → life.happened ≡ one ∷ before →
-        (word_at device.now.words cell ≡ word_at (words_at life.held life.passes before) cell)
+        (word_at device.now.words cell ≡ word_at (words_at_beside life.held life.passes before) cell)
         ⊎ MovesBy life.held life.passes before cell (word_at device.now.words cell) one }
 {
     settings_move_beside();
@@ -218,9 +218,9 @@ pub fn an_order_that_goes_through(host: &Host, device: &Converter, cell: Place, 
     ghost life: { PartLife }
     requires led { LedTo life host.now device.now }
     ensures { (frames before : List Happening) (order : Event) (arrivals : List Arrival) (acked : Bool) →
-        life.happened ≡ frames ++ Happens order ∷ before → events_in frames ≡ honest_frames arrivals acked →
+        life.happened ≡ frames ++ Happens order ∷ before → events_among frames ≡ honest_frames arrivals acked →
         asked (beside life.held life.passes before) order ≡ Some (Order cell word) →
-        is_allowed (word_at (words_at life.held life.passes before) Protect) (cell_code cell) ≡ true →
+        is_allowed (word_at (words_at_beside life.held life.passes before) Protect) (cell_code cell) ≡ true →
         list_any (is_whole (frame_of life.held.config.addr (cell_write cell word))) arrivals ≡ true →
         (standing_at host.now cell ≡ Confirmed word) × (word_at device.now.words cell ≡ word) }
 {
@@ -263,7 +263,7 @@ pub fn a_voltage_within_limits(host: &Host, device: &Converter, output: u8) -> F
     requires led { LedTo of.life host.now device.now }
     requires there { output < of.life.held.config.count }
     requires between { slice_index_or of.limits output Unlimited ≡ Between of.bounds }
-    requires guarded { AreGuarded of.life.held of.life.passes of.registers of.limits of.life.happened }
+    requires guarded { AreGuardedBeside of.life.held of.life.passes of.registers of.limits of.life.happened }
     requires begins { BeginsWithin of.life.held output of.bounds }
     ensures { IsWithin of.bounds result }
 {
@@ -277,8 +277,8 @@ pub fn a_band_of_a_part(host: &Host, device: &Converter, output: u8) -> Option<B
     requires led { LedTo life host.now device.now }
     requires there { output < life.held.config.count }
     requires short { AreShort device.now.words output }
-    ensures { BandStands life.held life.passes life.happened output →
-        IfSome result (λ band. InBand band (commands life.held life.passes life.happened output)) }
+    ensures { BandStandsBeside life.held life.passes life.happened output →
+        IfSome result (λ band. InBand band (commands_beside life.held life.passes life.happened output)) }
 {
     bands_beside();
     plans_hold_in_lives(); // law: a part with every register lacks none
@@ -303,7 +303,7 @@ pub fn a_surveyed_part(host: &Host, device: &Converter)
 pub fn a_course_that_is_reached(host: &Host, device: &Converter)
     ghost life: { PartLife }
     requires led { LedTo life host.now device.now }
-    ensures { ReachedIsHeld life host.now device.now }
+    ensures { ReachedIsHeldByPart life host.now device.now }
 {
     frame_courses_hold_beside();
     plans_hold_in_lives(); // law: a part with every register lacks none
@@ -322,9 +322,9 @@ pub fn a_claim_beside_a_part(
     requires led { LedTo life host.now device.now }
     requires config { life.held.config ≡ c }
     requires passes { life.passes ≡ passes }
-    requires tells { TellsLog life.held life.passes life.happened acts.now }
+    requires tells { TellsLogBeside life.held life.passes life.happened acts.now }
     ensures { IfSome result (λ accepted. (at : ℕ) (cell : Cell) (word : ℕ) → slice_get claims.now at ≡ Some (Holds cell word) →
-        restarted_since life.held life.passes cell life.happened ≡ false → word_at device.now.words cell ≡ word) }
+        restarted_since_beside life.held life.passes cell life.happened ≡ false → word_at device.now.words cell ≡ word) }
 {
     accepted_claims_hold_beside();
     match check(c.addr, c.count, passes, acts, claims) {

@@ -11,7 +11,7 @@ ghost use Rattle.pm_law_tests.specs.ByName.{BeginsShort, CameInBytes, IsShort};
 ghost use Rattle.pm_world.specs.Confirmed.{restarts_converter};
 ghost use Rattle.pm_world.specs.Life.{life};
 ghost use Rattle.pm_world.specs.OpenLists.{is_other, lists_other as spec_lists_other};
-ghost use Rattle.pm_world.specs.Setup.{setup_fault, setup_of};
+ghost use Rattle.pm_world.specs.Setup.{world_fault, setup_of};
 ghost use Rattle.pm_world.specs.Uncertainty.{AreOfBytes, AreOpen, ArePossible, AreWordsChosen, Choice, Leaves, due_before, since_restart, witness_events, witness_start};
 
 use crate::further::{run_all, run_and_step};
@@ -57,7 +57,7 @@ pub fn a_world_that_can_be_made(
         let entries = since_restart (life c passes (more.now ∷ reverse events.now)).entries in
         let told = marks (setup_of c passes) entries in
         AreOpen told → ArePossible c world.host chosen →
-        setup_fault (witness_start c (due_before chosen told)) passes ≡ None)) }
+        world_fault (witness_start c (due_before chosen told)) passes ≡ None)) }
     ensures short { (chosen : Choice) → length (witness_events (setup_of c passes) chosen
         (since_restart (life c passes (more.now ∷ reverse events.now)).entries)) ≤ 2 * length (more.now ∷ reverse events.now) }
 {

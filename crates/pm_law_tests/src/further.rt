@@ -19,7 +19,7 @@ ghost use Rattle.pm_device.specs.Start.{IsSound};
 ghost use Rattle.pm_host.specs.Refusals.{IsSetup};
 ghost use Rattle.pm_world.specs.GoodBus.{GoodFrames};
 ghost use Rattle.pm_world.specs.Honest.{AreFewFrames, FormatsAgree, IsSpelled, MicrosAreNearest, OrdersGoThrough};
-ghost use Rattle.pm_world.specs.Setup.{setup_fault, setup_of};
+ghost use Rattle.pm_world.specs.Setup.{world_fault, setup_of};
 ghost use Rattle.pm_world.specs.Life.{AreTaken, now};
 ghost use Rattle.pm_world.specs.Lived.{IsLived};
 ghost use Rattle.pm_world.specs.Limited.{StaysLimited, commands};
@@ -234,7 +234,7 @@ pub fn cell_after_a_step(
     cell: Place,
 ) -> Result<(u16, Standing), SetupFault>
     requires { IsCell c.count cell }
-    ensures fault { result_err result ≡ setup_fault c passes }
+    ensures fault { result_err result ≡ world_fault c passes }
     ensures accepted { IfOk result (λ found. cell_accepts cell found.0 ≡ true) }
 {
     let (mut world, _) = World::run(c, passes, events)?;

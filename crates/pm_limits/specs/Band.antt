@@ -23,7 +23,7 @@ use Rattle.pm_limits.specs.declared.guard.Within.TheVariants.{Yes, No, NotKnown,
 use Rattle.pm_limits.specs.declared.output_limits.OutputLimits.{OutputLimits}
 use Rattle.pm_limits.specs.declared.output_limits.OutputLimits.TheVariants.{Unknown, Unlimited, Between}
 use Rattle.pm_limits.specs.Bounds.{Bounds}
-use Rattle.pm_limits.specs.Ends.{end_of, farthest_of}
+use Rattle.pm_limits.specs.Ends.{farthest_word, farthest_of}
 use Rattle.pm_limits.specs.Part.{missing_word}
 
 -- the values of all words have positive denominators, as in each format that a device has or a host learns
@@ -36,13 +36,13 @@ Known = Reg → Possible
 
 -- What each may hold by what a host knows of a part with these registers, in a format: a missing VOUT_MIN and a missing
 -- VOUT_MAX the one word at which it stands. A missing margin is never read, and may hold any word.
-abbrev pub known_of : PartRegisters → Shape → Summary → ℕ → Known
-known_of registers shape s output = λ register.
+abbrev pub known_of_output : PartRegisters → Shape → Summary → ℕ → Known
+known_of_output registers shape s output = λ register.
     option_map_or only (missing_word registers shape register) (possible_at s (Out output register))
 
 -- the word of a voltage, of those that it may hold, whose value lies farthest out
 abbrev pub word_end : Side → Shape → Known → Reg → ℕ
-word_end side shape known register = end_of side shape (shape_value shape) (known register)
+word_end side shape known register = farthest_word side shape (shape_value shape) (known register)
 
 -- one byte for each register that a byte of OPERATION selects
 abbrev pub each_selection : List ℕ
@@ -94,13 +94,13 @@ abbrev pub band_at : PartRegisters → Summary → ℕ → Option Band
 band_at registers s output =
     if may_select_avsbus (possible_at s (Out output Operation)) then None
     else option_map
-    (λ shape. band_with shape (known_of registers shape s output) (operations (possible_at s (Out output Operation))))
+    (λ shape. band_with shape (known_of_output registers shape s output) (operations (possible_at s (Out output Operation))))
     (format_at s output)
 
 -- what it would be with this byte in OPERATION, one that it takes
 abbrev pub band_on : PartRegisters → Summary → ℕ → ℕ → Option Band
 band_on registers s output byte = option_map
-    (λ shape. band_with shape (known_of registers shape s output) (byte ∷ []))
+    (λ shape. band_with shape (known_of_output registers shape s output) (byte ∷ []))
     (format_at s output)
 
 -- a value lies in a band, whose ends count as in it

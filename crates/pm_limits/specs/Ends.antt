@@ -43,8 +43,8 @@ candidates shape Any = shape_ends shape
 candidates shape (Words words) = words.items
 
 -- the word of a voltage, of those that it may hold, whose value lies farthest out
-abbrev pub end_of : Side → Shape → (ℕ → Ratio) → Possible → ℕ
-end_of side shape value possible = farthest_of side value (candidates shape possible)
+abbrev pub farthest_word : Side → Shape → (ℕ → Ratio) → Possible → ℕ
+farthest_word side shape value possible = farthest_of side value (candidates shape possible)
 
 -- the word of a format's least value, and of its greatest
 abbrev pub format_end : Side → Shape → ℕ

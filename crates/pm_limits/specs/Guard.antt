@@ -19,7 +19,7 @@ use Rattle.pm_host.specs.Ended.{job_in}
 use Rattle.pm_host.specs.Frames.{frames_left}
 use Rattle.pm_host.specs.Jobs.{HasNearestWord, accepted_job, begin_fault}
 use Rattle.pm_host.specs.Refusals.{cell_fault, micro_word, order_fault, range_fault}
-use Rattle.pm_host.specs.Summary.{Summary, format_at, next}
+use Rattle.pm_host.specs.Summary.{Summary, format_at, host_next}
 use Rattle.pm_host.specs.Transcript as accepted
 use Rattle.pm_limits.specs.declared.fault.LimitFault.{LimitFault}
 use Rattle.pm_limits.specs.declared.fault.LimitFault.TheVariants.{Host, FormatUnknown, NotKnownWithin, LimitsWidened, MissingRegister, NoLimits}
@@ -147,7 +147,7 @@ pub record BeginsUnless (refusal : Option LimitFault) (old : Guarded) (job : Job
     Type 0 where
   pub fault : result_err result ≡ refusal
   -- otherwise the host accepts it
-  pub ok : OnOk result (IsSomeAnd (accepted_job old.host job) (λ begun. new.host ≡ next old.host (accepted.Accepted begun)))
+  pub ok : OnOk result (IsSomeAnd (accepted_job old.host job) (λ begun. new.host ≡ host_next old.host (accepted.Accepted begun)))
   pub nearest : OnOk result (HasNearestWord old.host job)
   -- a refused job changes nothing
   pub err : OnErr result (new ≡ old)

@@ -19,7 +19,7 @@ use Rattle.pm_host.specs.Transcript.{Order}
 use Rattle.pm_limits.specs.declared.output_limits.OutputLimits.TheVariants.{Unlimited, Between}
 use Rattle.pm_limits.specs.declared.ends.Side.{Side}
 use Rattle.pm_limits.specs.declared.ends.Side.TheVariants.{Lowest, Highest}
-use Rattle.pm_limits.specs.Band.{HasDens, Known, band_on, decides, end_choice, end_with, known_of, lets_on, operations}
+use Rattle.pm_limits.specs.Band.{HasDens, Known, band_on, decides, end_choice, end_with, known_of_output, lets_on, operations}
 use Rattle.pm_limits.specs.Bounds.{Bounds, IsWithin}
 use Rattle.pm_limits.specs.Ends.{Reaches, format_end}
 use Rattle.pm_limits.specs.Guard.{Guarded, guard_fault, limits_at, missing_cell, missing_ordered, of_host}
@@ -59,7 +59,7 @@ pub record GuardedOrdersAreWithin : Type 0 where
 -- (`ordered`, `checked`).
 pub record WholePartsMissNothing : Type 0 where
   pub known : (shape : Shape) (s : Summary) (output : ℕ) →
-      known_of all_registers shape s output ≡ (λ register. possible_at s (Out output register))
+      known_of_output all_registers shape s output ≡ (λ register. possible_at s (Out output register))
   pub ordered : (cell : Cell) (word : ℕ) → missing_ordered all_registers cell word ≡ None
   pub checked : (cell : Cell) → missing_cell all_registers cell ≡ None
 

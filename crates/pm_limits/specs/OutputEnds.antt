@@ -21,5 +21,5 @@ end_in ends MarginLow = ends.low
 end_in ends _ = ends.command
 
 -- the value of the end of the register that a byte of OPERATION selects
-unfoldable pub selected_value : Side → (ℕ → Ratio) → OutputEnds → ℕ → Ratio
-selected_value side value ends byte = value (word_on side (end_in ends (selected_register byte)))
+unfoldable pub selected_end_value : Side → (ℕ → Ratio) → OutputEnds → ℕ → Ratio
+selected_end_value side value ends byte = value (word_on side (end_in ends (selected_register byte)))

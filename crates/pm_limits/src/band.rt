@@ -8,7 +8,7 @@ ghost use Rattle.pm_num.specs.AnyFormat.{voltage_shape};
 ghost use Rattle.pm_table.specs.declared.cell.Cell.TheVariants.{Out};
 ghost use Rattle.pm_table.specs.declared.reg.Reg.TheVariants.{Operation};
 ghost use Rattle.pm_host.specs.Summary.{possible_at};
-ghost use Rattle.pm_limits.specs.Band.{band_at, band_on as spec_band_on, band_with, is_untaken as spec_is_untaken, known_of, may_select_avsbus as spec_may_select_avsbus, operations as spec_operations, selects_avsbus as spec_selects_avsbus};
+ghost use Rattle.pm_limits.specs.Band.{band_at, band_on as spec_band_on, band_with, is_untaken as spec_is_untaken, known_of_output, may_select_avsbus as spec_may_select_avsbus, operations as spec_operations, selects_avsbus as spec_selects_avsbus};
 
 use crate::ends::{OutputEnds, Side, format_in};
 use crate::part_registers::PartRegisters;
@@ -78,7 +78,7 @@ fn band_by(
     bytes: &[u16],
 ) -> Band
     requires { output < 8 }
-    ensures { result ≡ band_with (voltage_shape format.now) (known_of registers (voltage_shape format.now) (held None host.now) output) bytes.now }
+    ensures { result ≡ band_with (voltage_shape format.now) (known_of_output registers (voltage_shape format.now) (held None host.now) output) bytes.now }
 {
     let ends = OutputEnds::of(format, host, registers, output);
     Band {

@@ -6,9 +6,9 @@ ghost use Rattle.pm_table.specs.declared.reg.Reg.TheVariants.{VoutMax, VoutMin};
 ghost use Rattle.pm_table.specs.Cell.{IsCell};
 ghost use Rattle.pm_host.specs.Summary.{format_at, possible_at};
 ghost use Rattle.pm_model.specs.Commanded.{limited as spec_limited, selected_register};
-ghost use Rattle.pm_limits.specs.Band.{known_of, word_end};
-ghost use Rattle.pm_limits.specs.Ends.{candidates as spec_candidates, format_end as spec_format_end, shape_ends, farthest as spec_farthest, end_of, farthest_of as spec_farthest_of, is_farther as spec_is_farther};
-ghost use Rattle.pm_limits.specs.OutputEnds.{end_in, selected_value, word_on};
+ghost use Rattle.pm_limits.specs.Band.{known_of_output, word_end};
+ghost use Rattle.pm_limits.specs.Ends.{candidates as spec_candidates, format_end as spec_format_end, shape_ends, farthest as spec_farthest, farthest_word, farthest_of as spec_farthest_of, is_farther as spec_is_farther};
+ghost use Rattle.pm_limits.specs.OutputEnds.{end_in, selected_end_value, word_on};
 ghost use Rattle.pm_limits.specs.declared.ends.Side.{Side};
 
 use crate::part_registers::PartRegisters;
@@ -83,11 +83,13 @@ impl OutputEnds {
         requires { output < 8 }
         ensures selected { (side : Side) (byte : ℕ) →
             word_on side (end_in result (selected_register byte))
-            ≡ word_end side (voltage_shape format.now) (known_of registers (voltage_shape format.now) (held None host.now) output) (selected_register byte) }
+            ≡ word_end side (voltage_shape format.now) (known_of_output registers (voltage_shape format.now) (held None host.now) output) (selected_register byte) }
         ensures least { (side : Side) → word_on side result.min
-            ≡ word_end side (voltage_shape format.now) (known_of registers (voltage_shape format.now) (held None host.now) output) VoutMin }
+            ≡ word_end side (voltage_shape format.now)
+            (known_of_output registers (voltage_shape format.now) (held None host.now) output) VoutMin }
         ensures greatest { (side : Side) → word_on side result.max
-            ≡ word_end side (voltage_shape format.now) (known_of registers (voltage_shape format.now) (held None host.now) output) VoutMax }
+            ≡ word_end side (voltage_shape format.now)
+            (known_of_output registers (voltage_shape format.now) (held None host.now) output) VoutMax }
     {
         OutputEnds {
             command: ends_at(format, host, registers, output, Reg::VoutCommand),
@@ -101,7 +103,7 @@ impl OutputEnds {
     /// How far out on a side the output may command, with one of these bytes in OPERATION.
     pub(crate) fn reached(&self, side: Side, format: &VoltageFormat, bytes: &[u16]) -> Frac
         ensures { let value = voltage_value format.now in
-            let selected = selected_value side value self.now in
+            let selected = selected_end_value side value self.now in
             result ≡ spec_limited (selected (spec_farthest_of side selected bytes.now))
             (value (word_on side self.now.min)) (value (word_on side self.now.max)) }
     {
@@ -122,9 +124,9 @@ impl OutputEnds {
     }
 
     // Whether the register that the other byte selects has the farther end.
-    #[tactic(auto, unfolding(crate::specs::OutputEnds::selected_value))]
+    #[tactic(auto, unfolding(crate::specs::OutputEnds::selected_end_value))]
     fn is_farther(&self, side: Side, format: &VoltageFormat, byte: u16, other: u16) -> bool
-        ensures { let value = selected_value side (voltage_value format.now) self.now in
+        ensures { let value = selected_end_value side (voltage_value format.now) self.now in
             result ≡ spec_is_farther side (value byte) (value other) }
     {
         side.is_farther(format, self.word(side, byte), self.word(side, other))
@@ -133,7 +135,7 @@ impl OutputEnds {
     // The byte of several whose selected register has the farthest end; 0 if there is none.
     fn farthest(&self, side: Side, format: &VoltageFormat, bytes: &[u16]) -> u16
         ensures { result
-            ≡ spec_farthest_of side (selected_value side (voltage_value format.now) self.now) bytes.now }
+            ≡ spec_farthest_of side (selected_end_value side (voltage_value format.now) self.now) bytes.now }
     {
         match bytes.split_first() {
             Some((first, rest)) => self.farthest_from(side, format, *first, rest),
@@ -144,7 +146,7 @@ impl OutputEnds {
     // The byte of a first one and others whose selected register has the farthest end.
     fn farthest_from(&self, side: Side, format: &VoltageFormat, first: u16, others: &[u16]) -> u16
         ensures { result
-            ≡ spec_farthest side (selected_value side (voltage_value format.now) self.now) first others.now }
+            ≡ spec_farthest side (selected_end_value side (voltage_value format.now) self.now) first others.now }
     {
         let mut farthest = first;
         for byte in others {
@@ -175,7 +177,8 @@ fn ends_at(
 ) -> WordEnds
     requires { output < 8 }
     ensures { (side : Side) → word_on side result
-        ≡ word_end side (voltage_shape format.now) (known_of registers (voltage_shape format.now) (held None host.now) output) register }
+        ≡ word_end side (voltage_shape format.now)
+        (known_of_output registers (voltage_shape format.now) (held None host.now) output) register }
 {
     match registers.missing_word(format, register) {
         Some(word) => WordEnds {
@@ -190,7 +193,7 @@ fn ends_at(
 fn ends_in(format: &VoltageFormat, host: &State, cell: Cell) -> WordEnds
     requires { IsCell 8 cell }
     ensures { (side : Side) → word_on side result
-        ≡ end_of side (voltage_shape format.now) (voltage_value format.now) (possible_at (held None host.now) cell) }
+        ≡ farthest_word side (voltage_shape format.now) (voltage_value format.now) (possible_at (held None host.now) cell) }
 {
     let words = candidates(format, host, cell);
     WordEnds {

@@ -16,14 +16,14 @@ pub record Engine (T : Type 0) : Type 0 where
 
 -- ---- what an input alone decides
 
-abbrev pub end_of : {T : Type 0} → Result (List ℕ × T) TextFault → Result T TextFault
-end_of (Ok made) = Ok made.1
-end_of (Err fault) = Err fault
+abbrev pub engine_end : {T : Type 0} → Result (List ℕ × T) TextFault → Result T TextFault
+engine_end (Ok made) = Ok made.1
+engine_end (Err fault) = Err fault
 
 -- an input that is too long is X3, whatever it holds
-abbrev pub outcome_of : {T : Type 0} → Engine T → List ℕ → Result T TextFault
-outcome_of engine input = if nat_lt max_text (length input) then Err TooLong
-    else end_of (engine.whole input)
+abbrev pub engine_outcome : {T : Type 0} → Engine T → List ℕ → Result T TextFault
+engine_outcome engine input = if nat_lt max_text (length input) then Err TooLong
+    else engine_end (engine.whole input)
 
 -- the reader, the writer and the memory served
 abbrev pub IsSettled : {T : Type 0} → Result T TextFault → Type 0

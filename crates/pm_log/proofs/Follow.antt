@@ -1,10 +1,10 @@
--- What is known after lines of a log, which claims are taken on trust, and what an accepted one says.
+-- A replay of acts and lines of a log: what is known then, and which claims are taken on trust.
 use Rattle.std.specs.Option.{option_map_or}
 use Rattle.std.specs.Prelude.{IsSomeAnd, IfSome, option_map, reverse, is_none, is_some, not, ◌&&◌, ◌||◌, ◌==◌, nat_le, nat_lt}
-use Rattle.std.specs.Prelude.{if◌then◌else◌, replicate, slice_index_or}
+use Rattle.std.specs.Prelude.{if◌then◌else◌, replicate, slice_index_or, get_or, option_to_list, bytes_eq}
 use Rattle.std.proofs.{lemmas.Bool.Decides.nat_tests, lemmas.Bool.and_parts}
 use Rattle.std.proofs.Common.{◌≡◌, ◌+◌, length, ℕ, Bool, true, false, List, [], ◌∷◌, ◌++◌, Option, Some, None, Result, Ok, Err, refl, sym}
-use Rattle.std.proofs.Common.{◌∙◌, ap, subst, ◌≢◌, ◌<◌, arith, ◌≤◌, ℤ, suc, append_assoc, append-nil}
+use Rattle.std.proofs.Common.{◌∙◌, ap, subst, ◌≢◌, ◌<◌, arith, ◌≤◌, ℤ, suc, append_assoc, append-nil, zero, take, cond}
 use Rattle.std.proofs.lemmas.List.{reverse-reverse, get_or-replicate, get_or_past, get_or-set_other, get_or-set_same, length-replicate}
 use Rattle.std.proofs.lemmas.List.{length-set}
 use Rattle.pm_table.specs.{Rules.first, declared.cell.Cell.Cell, declared.reg.Reg.Reg}
@@ -12,31 +12,41 @@ use Rattle.pm_table.specs.Cell.{cell_in, is_cell, place_of, places, same_cell}
 use Rattle.pm_table.specs.Laws.{CellsAreToldApart, CellsHavePlaces}
 use Rattle.pm_table.specs.declared.cell.Cell.TheVariants.{Out, Protect}
 use Rattle.pm_table.specs.declared.reg.Reg.TheVariants.{Operation, VoutCommand, VoutMax, MarginHigh, MarginLow, VoutMin}
-use Rattle.pm_host.specs.{Lemmas.accepted-free, Told.entry_told, Transcript.Setup, declared.fault.HostFault.HostFault}
-use Rattle.pm_host.specs.{declared.host.Told.Told, declared.job.Job.Job, declared.stage.Stage.Stage}
-use Rattle.pm_host.specs.Jobs.{accepted_job, begin_fault}
-use Rattle.pm_host.specs.Refusals.{is_busy, may_come, setup_fault, is_within}
-use Rattle.pm_host.specs.Summary.{Summary, next, start}
+use Rattle.pm_frame.specs.declared.message.Message.{Message}
+use Rattle.pm_frame.specs.Layout.{is_read_message, sent, with_pec}
+use Rattle.pm_host.specs.{Laws.TranscriptsAreFollowed, Lemmas.accepted-free, Messages.IsFrameOf, Told.entry_told, Transcript.Setup}
+use Rattle.pm_host.specs.{declared.fault.HostFault.HostFault, declared.host.Told.Told, declared.job.Job.Job, declared.stage.Stage.Stage}
+use Rattle.pm_host.specs.Jobs.{accepted_job, begin_fault, Begins}
+use Rattle.pm_host.specs.Now.{host_now, AreTold}
+use Rattle.pm_host.specs.Refusals.{is_busy, may_come, setup_fault, is_within, IsSetup}
+use Rattle.pm_host.specs.Summary.{Summary, host_next, start, sending_in}
 use Rattle.pm_host.specs.Transcript as host
 use Rattle.pm_host.specs.declared.host.Told.TheVariants as told
 use Rattle.pm_limits.specs.declared.part_registers.PartRegisters.{PartRegisters}
 use Rattle.pm_limits.specs.Part.{all_registers, has_register}
-use Rattle.pm_log.specs.{Jobs.job_in, declared.act.Act.Act, declared.claim.Claim.Claim, declared.fault.LogFault.LogFault}
-use Rattle.pm_log.specs.{declared.log_line.LogLine.LogLine}
-use Rattle.pm_log.specs.Answered.{answer_in, with_answer, answer_line, belied, belied_at, no_answers}
-use Rattle.pm_log.specs.Checks.{Accepts, Checks, MightComeFrom, act_next, all_after, is_claimed, is_own, told_fault, entry_of}
+use Rattle.pm_log.specs.{Jobs.job_in_frame, declared.act.Act.Act, declared.check_fault.ActFault.TheVariants.Refused}
+use Rattle.pm_log.specs.{declared.claim.Claim.Claim}
+use Rattle.pm_log.specs.{declared.fault.LogFault.LogFault, declared.log_line.LogLine.LogLine}
+use Rattle.pm_log.specs.Answered.{cell_of_answer, with_answer, answer_line, belied, belied_at, no_answers}
+use Rattle.pm_log.specs.Checks.{Accepts, Checks, MightComeFrom, act_next, all_after, is_claimed, is_own, host_told_fault, entry_of_act}
+use Rattle.pm_log.specs.Checks.{ReplaysAct}
+use Rattle.pm_log.specs.Checks.{AreClaimed, IsEntry, entries_from, frame_of_message}
 use Rattle.pm_log.specs.Lacks.{both, has_all, lacking_more, lacks_nothing, not_allowed, part_at}
-use Rattle.pm_log.specs.Laws.{Log, at_hand, held_by, known_of, known_by, log_of_lines, log_told, log_with, told_of, with_job, with_restart}
-use Rattle.pm_log.specs.Laws.{with_transfer, answered_since, answers, are_lacking, claims_lack, IsLacking, IsTrusted}
-use Rattle.pm_log.specs.Logs.{Known, begun_with, claimed, distrusted, headed, is_address, judged, told as heard, told_with, unknown}
-use Rattle.pm_log.specs.Logs.{with_claim, answered_or, came_of, lacking_fault, nothing}
-use Rattle.pm_log.specs.Replays.{begun_by, first_told, fits, free, is_answer, named_told, transferred}
+use Rattle.pm_log.specs.Laws.{Log, at_hand, host_after_log, known_of_lines, known_by_line, log_of_lines, log_told, log_with, told_of_packet}
+use Rattle.pm_log.specs.Laws.{acts_with_job, with_restart}
+use Rattle.pm_log.specs.Laws.{with_transfer, answered_since, line_answers, are_lacking, claims_lack, IsLacking, IsTrusted}
+use Rattle.pm_log.specs.Logs.{Known, known_with_host, claimed, distrusted, headed, is_address, line_accepted, transfer_told as heard}
+use Rattle.pm_log.specs.Logs.{known_told_with, unknown_claim}
+use Rattle.pm_log.specs.Logs.{with_claim, answered_or, came_of, lacking_fault, known_before_lines}
+use Rattle.pm_log.specs.Replays.{begun_with_frame, first_told, frame_fits, free, is_answer, named_told, transferred}
 use Rattle.pm_log.specs.Verdicts.{trusted_at, trusted_below}
 use Rattle.pm_log.specs.declared.act.Act.TheVariants as act
 use Rattle.pm_log.specs.declared.check_fault.ActFault.TheVariants as act_fault
 use Rattle.pm_log.specs.declared.check_fault.CheckFault.TheVariants as check
 use Rattle.pm_log.specs.declared.claim.Claim.TheVariants.{Holds, Commands}
 use Rattle.pm_log.specs.declared.log_line.LogLine.TheVariants.{Note, Head, Claimed, Sent, Failed}
+
+-- What is known after lines of a log, which claims are taken on trust, and what an accepted one says.
 
 -- Lines that are accepted, and the acts that they are.
 
@@ -51,23 +61,23 @@ busy_of s frame own = go s.stage refl
     go (Some stage) is = rw is refl
 
 -- nothing is against a frame that the host sends
-no_fault : (s : Summary) (frame : List ℕ) (came : Told) → fits s frame (entry_told came) ≡ true → told_fault s frame came ≡ None
+no_fault : (s : Summary) (frame : List ℕ) (came : Told) → frame_fits s frame (entry_told came) ≡ true → host_told_fault s frame came ≡ None
 no_fault s frame (told.Finished acked) is =
     let parts = and_parts _ _ is in rw (busy_of s frame parts.0, parts.0, parts.1) refl
 no_fault s frame (told.Got bytes) is =
     let parts = and_parts _ _ is in rw (busy_of s frame parts.0, parts.0, parts.1) refl
 
 -- a host with no job open sends nothing
-unsent : (s : Summary) (frame : List ℕ) (entry : host.Entry) → is_busy s ≡ false → fits s frame entry ≡ false
+unsent : (s : Summary) (frame : List ℕ) (entry : host.Entry) → is_busy s ≡ false → frame_fits s frame entry ≡ false
 unsent s frame entry idle = go s.stage refl
   where
-    go : (o : Option Stage) → s.stage ≡ o → fits s frame entry ≡ false
+    go : (o : Option Stage) → s.stage ≡ o → frame_fits s frame entry ≡ false
     go None is = rw is refl
     go (Some stage) is = let busy : is_busy s ≡ true = rw is refl in absurd (cc)
 
 -- no job is open after a restart
 idle_of : (s : Summary) → is_busy (free s) ≡ false
-unfolding next
+unfolding host_next
 idle_of s = go (is_busy s) refl
   where
     go : (b : Bool) → is_busy s ≡ b → is_busy (free s) ≡ false
@@ -78,7 +88,8 @@ idle_of s = go (is_busy s) refl
 
 -- a job that is begun after these acts, and its first frame
 begun : (st : Summary) (acts : List Act) (asked : Job) (frame : List ℕ) (came : Told) → is_busy (all_after st acts) ≡ false →
-    begin_fault (all_after st acts) asked ≡ None → fits (act_next (all_after st acts) (act.Begun asked)) frame (entry_told came) ≡ true →
+    begin_fault (all_after st acts) asked ≡ None → frame_fits (act_next (all_after st acts) (act.Begun asked)) frame (entry_told came)
+    ≡ true →
     MightComeFrom st acts → MightComeFrom st (act.Sent (at_hand frame) came ∷ act.Begun asked ∷ acts)
 begun st acts asked frame came idle none fit come = (
   no_fault (act_next (all_after st acts) (act.Begun asked)) frame came fit,
@@ -94,9 +105,9 @@ begun st acts asked frame came idle none fit come = (
         IsSomeAnd (option_map (λ job. host.Accepted job) (accepted_job (all_after st acts) asked)) (λ entry. may_come (all_after st acts) entry ≡ true)
     go None is =
         let same : act_next (all_after st acts) (act.Begun asked) ≡ all_after st acts
-        = ap (λ (o : Option host.Job). option_map_or (λ entry. next (all_after st acts) entry) (option_map (λ job. host.Accepted job) o) (all_after st acts)) is in
-        let unfit : fits (act_next (all_after st acts) (act.Begun asked)) frame (entry_told came) ≡ false
-        = subst (λ (t : Summary). fits t frame (entry_told came) ≡ false) (sym same) (unsent (all_after st acts) frame (entry_told came) idle) in
+        = ap (λ (o : Option host.Job). option_map_or (λ entry. host_next (all_after st acts) entry) (option_map (λ job. host.Accepted job) o) (all_after st acts)) is in
+        let unfit : frame_fits (act_next (all_after st acts) (act.Begun asked)) frame (entry_told came) ≡ false
+        = subst (λ (t : Summary). frame_fits t frame (entry_told came) ≡ false) (sym same) (unsent (all_after st acts) frame (entry_told came) idle) in
         absurd (cc)
     go (Some job) is = rw is (ap (λ (o : Option HostFault). is_none o) (accepted-free (all_after st acts) asked job is none))
 
@@ -123,7 +134,7 @@ Comes log = (setup_fault log.setup.outputs log.setup.passes ≡ None) × MightCo
 
 -- what is known is what a host holds that heard the acts
 pub record Follows (log : Option Log) (known : Known) : Type 0 where
-  pub held : known.host ≡ option_map held_by log
+  pub held : known.host ≡ option_map host_after_log log
   pub come : IfSome log Comes
 
 -- what two results hold is one
@@ -141,27 +152,27 @@ first_taken : (st : Summary) (acts : List Act) (frame : List ℕ) (came : Told) 
     (s ≡ all_after st (act.Sent (at_hand frame) came ∷ act.Begun asked ∷ with_restart (all_after st acts) acts))
     × MightComeFrom st (act.Sent (at_hand frame) came ∷ act.Begun asked ∷ with_restart (all_after st acts) acts)
 first_taken st acts frame came s is_told asked come none is =
-    go (fits (act_next (free (all_after st acts)) (act.Begun asked)) frame (entry_told came)) refl
+    go (frame_fits (act_next (free (all_after st acts)) (act.Begun asked)) frame (entry_told came)) refl
   where
-    go : (b : Bool) → fits (act_next (free (all_after st acts)) (act.Begun asked)) frame (entry_told came) ≡ b →
+    go : (b : Bool) → frame_fits (act_next (free (all_after st acts)) (act.Begun asked)) frame (entry_told came) ≡ b →
         (s ≡ all_after st (act.Sent (at_hand frame) came ∷ act.Begun asked ∷ with_restart (all_after st acts) acts))
         × MightComeFrom st (act.Sent (at_hand frame) came ∷ act.Begun asked ∷ with_restart (all_after st acts) acts)
     go false unfit = let bad = rw unfit at is in absurd (cc)
     go true fit =
         let got = rw fit at is in
         let same = freed st acts in
-        let now : s ≡ next (act_next (free (all_after st acts)) (act.Begun asked)) (entry_told came) = ok_one _ _ _ _ _ refl got in (
-          now ∙ ap (λ (t : Summary). next (act_next t (act.Begun asked)) (entry_told came)) (sym same),
+        let now : s ≡ host_next (act_next (free (all_after st acts)) (act.Begun asked)) (entry_told came) = ok_one _ _ _ _ _ refl got in (
+          now ∙ ap (λ (t : Summary). host_next (act_next t (act.Begun asked)) (entry_told came)) (sym same),
           begun st (with_restart (all_after st acts) acts) asked frame came
               (subst (λ (t : Summary). is_busy t ≡ false) (sym same) (idle_of (all_after st acts)))
               (subst (λ (t : Summary). begin_fault t asked ≡ None) (sym same) none)
-              (subst (λ (t : Summary). fits (act_next t (act.Begun asked)) frame (entry_told came) ≡ true) (sym same) fit)
+              (subst (λ (t : Summary). frame_fits (act_next t (act.Begun asked)) frame (entry_told came) ≡ true) (sym same) fit)
               (free_comes st acts come),
         )
 
 begun_taken : (st : Summary) (acts : List Act) (frame : List ℕ) (came : Told) (s : Summary) (is_told : Bool) (asked : Job)
     (fault : Option HostFault) → MightComeFrom st acts → begin_fault (free (all_after st acts)) asked ≡ fault →
-    begun_by fault (free (all_after st acts)) asked frame (entry_told came) ≡ Ok (s, is_told) →
+    begun_with_frame fault (free (all_after st acts)) asked frame (entry_told came) ≡ Ok (s, is_told) →
     (s ≡ all_after st (act.Sent (at_hand frame) came ∷ act.Begun asked ∷ with_restart (all_after st acts) acts))
     × MightComeFrom st (act.Sent (at_hand frame) came ∷ act.Begun asked ∷ with_restart (all_after st acts) acts)
 begun_taken st acts frame came s is_told asked (Some fault) come none is = absurd (cc)
@@ -170,8 +181,8 @@ begun_taken st acts frame came s is_told asked None come none is = first_taken s
 named_taken : (st : Summary) (acts : List Act) (frame : List ℕ) (came : Told) (s : Summary) (is_told : Bool)
     (named : Result (Option Job) LogFault) → MightComeFrom st acts →
     named_told (all_after st acts) named frame (entry_told came) ≡ Ok (s, is_told) →
-    (s ≡ all_after st (with_job (all_after st acts) (act.Sent (at_hand frame) came) named acts))
-    × MightComeFrom st (with_job (all_after st acts) (act.Sent (at_hand frame) came) named acts)
+    (s ≡ all_after st (acts_with_job (all_after st acts) (act.Sent (at_hand frame) came) named acts))
+    × MightComeFrom st (acts_with_job (all_after st acts) (act.Sent (at_hand frame) came) named acts)
 named_taken st acts frame came s is_told (Err fault) come is = absurd (cc)
 named_taken st acts frame came s is_told (Ok None) come is = (ok_one _ _ _ _ _ refl is, come)
 named_taken st acts frame came s is_told (Ok (Some asked)) come is =
@@ -179,9 +190,9 @@ named_taken st acts frame came s is_told (Ok (Some asked)) come is =
 
 takes : (st : Summary) (acts : List Act) (frame : List ℕ) (came : Told) (s : Summary) (is_told : Bool) →
     MightComeFrom st acts → transferred (all_after st acts) frame (entry_told came) ≡ Ok (s, is_told) → Takes st acts frame came s
-takes st acts frame came s is_told come is = go (fits (all_after st acts) frame (entry_told came)) refl
+takes st acts frame came s is_told come is = go (frame_fits (all_after st acts) frame (entry_told came)) refl
   where
-    go : (b : Bool) → fits (all_after st acts) frame (entry_told came) ≡ b → Takes st acts frame came s
+    go : (b : Bool) → frame_fits (all_after st acts) frame (entry_told came) ≡ b → Takes st acts frame came s
     go true fit =
         let got = rw fit at is in
         record {
@@ -190,7 +201,7 @@ takes st acts frame came s is_told come is = go (fits (all_after st acts) frame 
         }
     go false unfit =
         let named = named_taken st acts frame came s is_told
-        (job_in (all_after st acts).setup.addr frame (is_answer (entry_told came))) come (rw unfit at is) in
+        (job_in_frame (all_after st acts).setup.addr frame (is_answer (entry_told came))) come (rw unfit at is) in
         record { held = rw unfit named.0; come = rw unfit named.1 }
 
 -- ---- a line
@@ -205,10 +216,11 @@ told_follows : (number : ℕ) (log : Option Log) (known new : Known) (frame : Li
 told_follows number None known new frame came was is =
     let none = rw was.held at is in absurd (cc)
 told_follows number (Some log) known new frame came was is =
-    go (transferred (held_by log) frame (entry_told came)) refl (rw was.held at is)
+    go (transferred (host_after_log log) frame (entry_told came)) refl (rw was.held at is)
   where
-    go : (r : Result (Summary × Bool) LogFault) → transferred (held_by log) frame (entry_told came) ≡ r →
-        told_with known (with_answer number known.answers (answer_in (held_by log).setup.addr frame (entry_told came))) r ≡ Ok new →
+    go : (r : Result (Summary × Bool) LogFault) → transferred (host_after_log log) frame (entry_told came) ≡ r →
+        known_told_with known (with_answer number known.answers (cell_of_answer (host_after_log log).setup.addr frame (entry_told came))) r
+        ≡ Ok new →
         Follows (Some (log_told frame came log)) new
     go (Err fault) at is = absurd (cc)
     go (Ok (s, is_told)) at is =
@@ -220,7 +232,7 @@ told_follows number (Some log) known new frame came was is =
 
 -- a head begins a log
 begun_follows : (known new : Known) (setup : host.Setup) (fault : Option HostFault) → setup_fault setup.outputs setup.passes ≡ fault →
-    begun_with known fault setup ≡ Ok new → Follows (Some (record { setup = setup; acts = [] })) new
+    known_with_host known fault setup ≡ Ok new → Follows (Some (record { setup = setup; acts = [] })) new
 begun_follows known new setup (Some fault) at is = absurd (cc)
 begun_follows known new setup None at is =
     record { held = ap (λ (k : Known). k.host) (same_known _ _ _ refl is); come = (at, tt) }
@@ -252,11 +264,12 @@ claim_follows : (log : Option Log) (known new : Known) (claim : Claim) → Follo
     Follows log new
 claim_follows None known new claim was is = let none = rw was.held at is in absurd (cc)
 claim_follows (Some log) known new claim was is =
-    let kept = claimed_known known new (held_by log) claim (subst (λ (o : Option Summary). claimed known o claim ≡ Ok new) was.held is) in
+    let kept =
+    claimed_known known new (host_after_log log) claim (subst (λ (o : Option Summary). claimed known o claim ≡ Ok new) was.held is) in
     record { held = ap (λ (k : Known). k.host) kept.after ∙ was.held; come = was.come }
 
 -- one line more
-line_follows : (number : ℕ) (log : Option Log) (known new : Known) (line : LogLine) → Follows log known → judged number known line ≡ Ok new →
+line_follows : (number : ℕ) (log : Option Log) (known new : Known) (line : LogLine) → Follows log known → line_accepted number known line ≡ Ok new →
     Follows (log_with log line) new
 line_follows number log known new Note was is = subst (λ (k : Known). Follows log k) (sym (same_known _ _ _ refl is)) was
 line_follows number log known new (Head addr outputs passes) was is =
@@ -264,19 +277,19 @@ line_follows number log known new (Head addr outputs passes) was is =
 line_follows number log known new (Claimed claim) was is = claim_follows log known new claim was is
 line_follows number log known new (Sent parts) was is = sent parts.read refl
   where
-    sent : (read : Option (List ℕ)) → parts.read ≡ read → Follows (option_map (log_told parts.write (told_of parts.read)) log) new
+    sent : (read : Option (List ℕ)) → parts.read ≡ read → Follows (option_map (log_told parts.write (told_of_packet parts.read)) log) new
     sent None at = rw at (told_follows number log known new parts.write (told.Finished true) was (rw at at is))
     sent (Some bytes) at = rw at (told_follows number log known new parts.write (told.Got (at_hand bytes)) was (rw at at is))
 line_follows number log known new (Failed write) was is = told_follows number log known new write (told.Finished false) was is
 
 -- lines one after another
-pub follows : (allowed : List PartRegisters) (lines : List LogLine) (known : Known) → known_of allowed lines ≡ Ok known →
+pub follows : (allowed : List PartRegisters) (lines : List LogLine) (known : Known) → known_of_lines allowed lines ≡ Ok known →
     Follows (log_of_lines lines) known
 follows allowed [] known is = record { held = ap (λ (k : Known). k.host) (same_known _ _ _ refl is); come = tt }
-follows allowed (line ∷ before) known is = go (known_of allowed before) refl is (λ was at. follows allowed before was at)
+follows allowed (line ∷ before) known is = go (known_of_lines allowed before) refl is (λ was at. follows allowed before was at)
   where
-    go : (r : Result Known LogFault) → known_of allowed before ≡ r → known_by (length before + 1) r line ≡ Ok known →
-        ((was : Known) → known_of allowed before ≡ Ok was → Follows (log_of_lines before) was) →
+    go : (r : Result Known LogFault) → known_of_lines allowed before ≡ r → known_by_line (length before + 1) r line ≡ Ok known →
+        ((was : Known) → known_of_lines allowed before ≡ Ok was → Follows (log_of_lines before) was) →
         Follows (log_with (log_of_lines before) line) known
     go (Ok was) at is so_far = line_follows (length before + 1) (log_of_lines before) was known line (so_far was at) is
     go (Err fault) at is so_far = absurd (cc)
@@ -284,15 +297,17 @@ follows allowed (line ∷ before) known is = go (known_of allowed before) refl i
 -- ---- the law
 
 -- lines before lines that are accepted are accepted
-before_is : (allowed : List PartRegisters) (later before : List LogLine) (known : Known) → known_of allowed (later ++ before) ≡ Ok known →
-    (was : Known) × (known_of allowed before ≡ Ok was)
+before_is : (allowed : List PartRegisters) (later before : List LogLine) (known : Known) → known_of_lines allowed (later ++ before)
+    ≡ Ok known →
+    (was : Known) × (known_of_lines allowed before ≡ Ok was)
 before_is allowed [] before known is = (known, is)
 before_is allowed (line ∷ later) before known is =
-    go (known_of allowed (later ++ before)) refl is (λ mid at. before_is allowed later before mid at)
+    go (known_of_lines allowed (later ++ before)) refl is (λ mid at. before_is allowed later before mid at)
   where
-    go : (r : Result Known LogFault) → known_of allowed (later ++ before) ≡ r → known_by (length (later ++ before) + 1) r line ≡ Ok known →
-        ((mid : Known) → known_of allowed (later ++ before) ≡ Ok mid → (was : Known) × (known_of allowed before ≡ Ok was)) →
-        (was : Known) × (known_of allowed before ≡ Ok was)
+    go : (r : Result Known LogFault) → known_of_lines allowed (later ++ before) ≡ r → known_by_line (length (later ++ before) + 1) r line
+        ≡ Ok known →
+        ((mid : Known) → known_of_lines allowed (later ++ before) ≡ Ok mid → (was : Known) × (known_of_lines allowed before ≡ Ok was)) →
+        (was : Known) × (known_of_lines allowed before ≡ Ok was)
     go (Ok mid) at is earlier = earlier mid at
     go (Err fault) at is earlier = absurd (cc)
 
@@ -300,23 +315,24 @@ before_is allowed (line ∷ later) before known is =
 pub record ClaimIn (allowed : List PartRegisters) (before : List LogLine) (claim : Claim) : Type 0 where
   pub was : Known
   pub new : Known
-  pub at : known_of allowed before ≡ Ok was
+  pub at : known_of_lines allowed before ≡ Ok was
   pub claims : claimed was was.host claim ≡ Ok new
 
 pub claim_in : (allowed : List PartRegisters) (later before : List LogLine) (claim : Claim) (known : Known) →
-    known_of allowed (later ++ Claimed claim ∷ before) ≡ Ok known → ClaimIn allowed before claim
+    known_of_lines allowed (later ++ Claimed claim ∷ before) ≡ Ok known → ClaimIn allowed before claim
 claim_in allowed later before claim known is = at_claim (before_is allowed later (Claimed claim ∷ before) known is)
   where
-    at_claim : (was : Known) × (known_of allowed (Claimed claim ∷ before) ≡ Ok was) → ClaimIn allowed before claim
-    at_claim (new, at) = go (known_of allowed before) refl at
+    at_claim : (was : Known) × (known_of_lines allowed (Claimed claim ∷ before) ≡ Ok was) → ClaimIn allowed before claim
+    at_claim (new, at) = go (known_of_lines allowed before) refl at
       where
-        go : (r : Result Known LogFault) → known_of allowed before ≡ r → known_by (length before + 1) r (Claimed claim) ≡ Ok new →
+        go : (r : Result Known LogFault) → known_of_lines allowed before ≡ r → known_by_line (length before + 1) r (Claimed claim)
+            ≡ Ok new →
             ClaimIn allowed before claim
         go (Ok was) at is = record { was = was; new = new; at = at; claims = is }
         go (Err fault) at is = absurd (cc)
 
 -- what `check` says of acts, oldest first
-pub accepts_acts : (log : Log) (claim : Claim) → Comes log → is_claimed (held_by log) claim ≡ true →
+pub accepts_acts : (log : Log) (claim : Claim) → Comes log → is_claimed (host_after_log log) claim ≡ true →
     Accepts log.setup (reverse log.acts) (claim ∷ [])
 accepts_acts log claim come known =
     let same = reverse-reverse log.acts in
@@ -326,7 +342,7 @@ accepts_acts log claim come known =
       claimed = (subst (λ (acts : List Act). is_claimed (all_after (start log.setup) acts) claim ≡ true) (sym same) known, tt);
     }
 
-pub refuses_acts : (log : Log) (claim : Claim) → Comes log → is_claimed (held_by log) claim ≡ false →
+pub refuses_acts : (log : Log) (claim : Claim) → Comes log → is_claimed (host_after_log log) claim ≡ false →
     Checks log.setup (reverse log.acts) (claim ∷ []) (Err (check.Claim 0))
 refuses_acts log claim come unknown =
     let same = reverse-reverse log.acts in (
@@ -348,7 +364,7 @@ unclaimed known s claim fault false at none is = at
 pub record Below : Type 0 where
   pub apart : CellsAreToldApart
   pub placed : CellsHavePlaces
-  pub kept : (s : Summary) (entry : host.Entry) → (next s entry).setup ≡ s.setup
+  pub kept : (s : Summary) (entry : host.Entry) → (host_next s entry).setup ≡ s.setup
 
 -- ---- lists
 
@@ -488,9 +504,9 @@ module _ (below : Below) where
 
   -- a host's setup stays
   act_kept : (s : Summary) (act : Act) → (act_next s act).setup ≡ s.setup
-  act_kept s act = go (entry_of s act)
+  act_kept s act = go (entry_of_act s act)
     where
-      go : (o : Option host.Entry) → (option_map_or (λ entry. next s entry) o s).setup ≡ s.setup
+      go : (o : Option host.Entry) → (option_map_or (λ entry. host_next s entry) o s).setup ≡ s.setup
       go None = refl
       go (Some entry) = below.kept s entry
 
@@ -498,7 +514,7 @@ module _ (below : Below) where
   setup_kept s [] = refl
   setup_kept s (act ∷ before) = act_kept (all_after s before) act ∙ setup_kept s before
 
-  pub held_addr : (log : Log) → (held_by log).setup.addr ≡ log.setup.addr
+  pub held_addr : (log : Log) → (host_after_log log).setup.addr ≡ log.setup.addr
   held_addr log = ap (λ (setup : host.Setup). setup.addr) (setup_kept (start log.setup) log.acts)
 
 -- ---- lines
@@ -518,7 +534,7 @@ no_answers_size : length no_answers ≡ places
 unfolding no_answers
 no_answers_size = length-replicate {A = Option ℕ} places None
 
-no_lines : (allowed : List PartRegisters) → Tracks allowed None [] (nothing allowed)
+no_lines : (allowed : List PartRegisters) → Tracks allowed None [] (known_before_lines allowed)
 unfolding no_answers lacks_nothing
 no_lines allowed = record {
   size = no_answers_size;
@@ -622,8 +638,8 @@ lacking_at without at addr part register false other small =
     apart same = grind (arith, nat_tests)
 
 claim_tracks : (below : Below) (allowed : List PartRegisters) (log : Log) (before : List LogLine) (known new : Known) (claim : Claim) →
-    log_of_lines before ≡ Some log → known.host ≡ Some (held_by log) → Tracks allowed (Some log) before known →
-    new ≡ with_claim known (held_by log).setup.addr claim → Tracks allowed (Some log) (Claimed claim ∷ before) new
+    log_of_lines before ≡ Some log → known.host ≡ Some (host_after_log log) → Tracks allowed (Some log) before known →
+    new ≡ with_claim known (host_after_log log).setup.addr claim → Tracks allowed (Some log) (Claimed claim ∷ before) new
 claim_tracks below allowed log before known new (Holds cell word) some host was is =
     subst (λ (k : Known). Tracks allowed (Some log) (Claimed (Holds cell word) ∷ before) k) (sym is) (record {
       size = was.size;
@@ -657,34 +673,34 @@ module _ (below : Below) where
   told_tracks : (allowed : List PartRegisters) (log : Option Log) (before : List LogLine) (known new : Known) (line : LogLine) (number : ℕ)
       (frame : List ℕ) (entry : host.Entry) (came : Told) → Follows log known → Tracks allowed log before known →
       ((addr : ℕ) (cell : Cell) → answered_since addr cell (line ∷ before)
-      ≡ (option_map_or (λ c. same_cell c cell) (answer_in addr frame entry) false || answered_since addr cell before)) →
+      ≡ (option_map_or (λ c. same_cell c cell) (cell_of_answer addr frame entry) false || answered_since addr cell before)) →
       ((addr : ℕ) (register : Reg) → are_lacking addr register (line ∷ before) ≡ are_lacking addr register before) →
       heard number known known.host frame entry ≡ Ok new → Tracks allowed (option_map (log_told frame came) log) (line ∷ before) new
   told_tracks allowed None before known new line number frame entry came follow was since mute is =
       let none = rw follow.held at is in absurd (cc)
   told_tracks allowed (Some log) before known new line number frame entry came follow was since mute is =
-      go (transferred (held_by log) frame entry) (rw follow.held at is)
+      go (transferred (host_after_log log) frame entry) (rw follow.held at is)
     where
       addr : ℕ
-      addr = (held_by log).setup.addr
+      addr = (host_after_log log).setup.addr
 
       lines : List (Option ℕ)
-      lines = with_answer number known.answers (answer_in addr frame entry)
+      lines = with_answer number known.answers (cell_of_answer addr frame entry)
 
-      go : (r : Result (Summary × Bool) LogFault) → told_with known lines r ≡ Ok new →
+      go : (r : Result (Summary × Bool) LogFault) → known_told_with known lines r ≡ Ok new →
           Tracks allowed (Some (log_told frame came log)) (line ∷ before) new
       go (Err fault) is = absurd (cc)
       go (Ok (s, is_told)) is =
           subst (λ (k : Known). Tracks allowed (Some (log_told frame came log)) (line ∷ before) k) (sym (same_known _ _ _ refl is)) (record {
-            size = size (answer_in addr frame entry);
+            size = size (cell_of_answer addr frame entry);
             same = was.same;
             taken = was.taken;
             short = was.short;
             answered = λ cell there.
-                line_more below number known.answers (answer_in addr frame entry) cell was.size there
-                ∙ ap (λ (n : ℕ). option_map_or (λ c. same_cell c cell) (answer_in n frame entry) false || is_some (answer_line known.answers cell))
+                line_more below number known.answers (cell_of_answer addr frame entry) cell was.size there
+                ∙ ap (λ (n : ℕ). option_map_or (λ c. same_cell c cell) (cell_of_answer n frame entry) false || is_some (answer_line known.answers cell))
                 (held_addr below log)
-                ∙ ap (λ (b : Bool). option_map_or (λ c. same_cell c cell) (answer_in log.setup.addr frame entry) false || b)
+                ∙ ap (λ (b : Bool). option_map_or (λ c. same_cell c cell) (cell_of_answer log.setup.addr frame entry) false || b)
                 (was.answered cell there)
                 ∙ sym (since log.setup.addr cell);
             lacking = λ at register. was.lacking at register ∙ ap not (sym (mute at register));
@@ -700,7 +716,7 @@ module _ (below : Below) where
 
   -- one line more
   line_tracks : (allowed : List PartRegisters) (before : List LogLine) (known new : Known) (line : LogLine) (number : ℕ) →
-      Follows (log_of_lines before) known → Tracks allowed (log_of_lines before) before known → judged number known line ≡ Ok new →
+      Follows (log_of_lines before) known → Tracks allowed (log_of_lines before) before known → line_accepted number known line ≡ Ok new →
       Tracks allowed (log_of_lines (line ∷ before)) (line ∷ before) new
   line_tracks allowed before known new Note number follow was is =
       quiet Note new (same_known _ _ _ refl is) (λ addr cell. refl) (λ addr register. refl) was
@@ -713,22 +729,23 @@ module _ (below : Below) where
       go None at follow was = let none = rw follow.held at is in absurd (cc)
       go (Some log) at follow was =
           claim_tracks below allowed log before known new claim at follow.held was
-          (claimed_known known new (held_by log) claim (subst (λ (o : Option Summary). claimed known o claim ≡ Ok new) follow.held is)).after
+          (claimed_known known new (host_after_log log) claim (subst (λ (o : Option Summary). claimed known o claim ≡ Ok new) follow.held is)).after
   line_tracks allowed before known new (Sent parts) number follow was is =
-      told_tracks allowed (log_of_lines before) before known new (Sent parts) number parts.write (came_of parts.read) (told_of parts.read)
+      told_tracks allowed (log_of_lines before) before known new (Sent parts) number parts.write (came_of parts.read)
+      (told_of_packet parts.read)
       follow was (λ addr cell. refl) (λ addr register. refl) is
   line_tracks allowed before known new (Failed write) number follow was is =
       told_tracks allowed (log_of_lines before) before known new (Failed write) number write (host.Finished false) (told.Finished false)
       follow was (λ addr cell. refl) (λ addr register. refl) is
 
   -- lines one after another
-  pub tracks : (allowed : List PartRegisters) (lines : List LogLine) (known : Known) → known_of allowed lines ≡ Ok known →
+  pub tracks : (allowed : List PartRegisters) (lines : List LogLine) (known : Known) → known_of_lines allowed lines ≡ Ok known →
       Tracks allowed (log_of_lines lines) lines known
   tracks allowed [] known is = subst (λ (k : Known). Tracks allowed None [] k) (sym (same_known _ _ _ refl is)) (no_lines allowed)
-  tracks allowed (line ∷ before) known is = go (known_of allowed before) refl is (λ was at. tracks allowed before was at)
+  tracks allowed (line ∷ before) known is = go (known_of_lines allowed before) refl is (λ was at. tracks allowed before was at)
     where
-      go : (r : Result Known LogFault) → known_of allowed before ≡ r → known_by (length before + 1) r line ≡ Ok known →
-          ((was : Known) → known_of allowed before ≡ Ok was → Tracks allowed (log_of_lines before) before was) →
+      go : (r : Result Known LogFault) → known_of_lines allowed before ≡ r → known_by_line (length before + 1) r line ≡ Ok known →
+          ((was : Known) → known_of_lines allowed before ≡ Ok was → Tracks allowed (log_of_lines before) before was) →
           Tracks allowed (log_of_lines (line ∷ before)) (line ∷ before) known
       go (Ok was) at is so_far =
           line_tracks allowed before was known line (length before + 1) (follows allowed before was at) (so_far was at) is
@@ -752,7 +769,7 @@ outputs_small outputs passes none = go (is_within 1 8 outputs) refl
 module _ (below : Below) (allowed : List PartRegisters) (log : Log) (before : List LogLine) (known : Known)
     (follow : Follows (Some log) known) (track : Tracks allowed (Some log) before known) where
   -- an output that a claim speaks of is one of at most eight
-  small : (output : ℕ) → nat_lt output (held_by log).setup.outputs ≡ true → nat_lt output 8 ≡ true
+  small : (output : ℕ) → nat_lt output (host_after_log log).setup.outputs ≡ true → nat_lt output 8 ≡ true
   small output there =
       let most = outputs_small log.setup.outputs log.setup.passes follow.come.0 in
       let same = ap (λ (setup : Setup). setup.outputs) (setup_kept below (start log.setup) log.acts) in
@@ -790,7 +807,8 @@ module _ (below : Below) (allowed : List PartRegisters) (log : Log) (before : Li
       none_at MarginLow each = each.2
       none_at VoutMin each = each.3
 
-  trusted_claim : (claim : Claim) → distrusted known (held_by log).setup.addr claim ≡ None → is_claimed (held_by log) claim ≡ true →
+  trusted_claim : (claim : Claim) → distrusted known (host_after_log log).setup.addr claim ≡ None → is_claimed (host_after_log log) claim
+      ≡ true →
       IsTrusted allowed log.setup.addr before claim
   trusted_claim (Holds cell word) none is = tt
   trusted_claim (Commands output part least most) none is =
@@ -799,7 +817,8 @@ module _ (below : Below) (allowed : List PartRegisters) (log : Log) (before : Li
       (small output (and_parts _ _ is).0)
 
   -- a claim that is to be trusted has nothing against it
-  nothing_against : (claim : Claim) → IsTrusted allowed log.setup.addr before claim → distrusted known (held_by log).setup.addr claim ≡ None
+  nothing_against : (claim : Claim) → IsTrusted allowed log.setup.addr before claim → distrusted known (host_after_log log).setup.addr claim
+      ≡ None
   nothing_against (Holds cell word) trust = refl
   nothing_against (Commands output part least most) trust =
       let addr = log.setup.addr in
@@ -820,7 +839,7 @@ module _ (below : Below) (allowed : List PartRegisters) (log : Log) (before : Li
 
 module _ (below : Below) where
   pub accepts : (allowed : List PartRegisters) (later before : List LogLine) (claim : Claim) (known : Known) →
-      known_of allowed (later ++ Claimed claim ∷ before) ≡ Ok known →
+      known_of_lines allowed (later ++ Claimed claim ∷ before) ≡ Ok known →
       IsSomeAnd (log_of_lines before) (λ log. Accepts log.setup (reverse log.acts) (claim ∷ [])
       × IsTrusted allowed log.setup.addr before claim)
   accepts allowed later before claim known is =
@@ -832,25 +851,25 @@ module _ (below : Below) where
           IsSomeAnd o (λ log. Accepts log.setup (reverse log.acts) (claim ∷ []) × IsTrusted allowed log.setup.addr before claim)
       go was new None follow track is = let none = rw follow.held at is in absurd (cc)
       go was new (Some log) follow track is =
-          let done = claimed_known was new (held_by log) claim (subst (λ (o : Option Summary). claimed was o claim ≡ Ok new) follow.held is) in (
+          let done = claimed_known was new (host_after_log log) claim (subst (λ (o : Option Summary). claimed was o claim ≡ Ok new) follow.held is) in (
             accepts_acts log claim follow.come done.claimed_is,
             trusted_claim below allowed log before was follow track claim done.trusted done.claimed_is,
           )
 
   pub refuses : (allowed : List PartRegisters) (before : List LogLine) (number : ℕ) (claim : Claim) (known : Known) (log : Log)
-      (fault : LogFault) → known_of allowed before ≡ Ok known → log_of_lines before ≡ Some log →
-      judged number known (Claimed claim) ≡ Err fault → IsTrusted allowed log.setup.addr before claim →
+      (fault : LogFault) → known_of_lines allowed before ≡ Ok known → log_of_lines before ≡ Some log →
+      line_accepted number known (Claimed claim) ≡ Err fault → IsTrusted allowed log.setup.addr before claim →
       Checks log.setup (reverse log.acts) (claim ∷ []) (Err (check.Claim 0))
   refuses allowed before number claim known log fault at some is trust =
       let follow = subst (λ (o : Option Log). Follows o known) some (follows allowed before known at) in
       let track = subst (λ (o : Option Log). Tracks allowed o before known) some (tracks below allowed before known at) in
       refuses_acts log claim follow.come
-      (unclaimed known (held_by log) claim fault (is_claimed (held_by log) claim) refl
+      (unclaimed known (host_after_log log) claim fault (is_claimed (host_after_log log) claim) refl
       (nothing_against below allowed log before known follow track claim trust)
       (subst (λ (o : Option Summary). claimed known o claim ≡ Err fault) follow.held is))
 
   pub says : (allowed : List PartRegisters) (lines : List LogLine) (known : Known) (addr : ℕ) (register : Reg) →
-      known_of allowed lines ≡ Ok known → has_register (part_at known.without addr) register ≡ not (are_lacking addr register lines)
+      known_of_lines allowed lines ≡ Ok known → has_register (part_at known.without addr) register ≡ not (are_lacking addr register lines)
   says allowed lines known addr register is = (tracks below allowed lines known is).lacking addr register
 
 -- What is said of the parts at addresses, one after another.
@@ -868,3 +887,78 @@ trusted_more parts addr text =
     let next : suc addr ≡ addr + 1 = omega arith in
     append_assoc text (trusted_below parts addr) (trusted_at addr (part_at parts addr))
     ∙ subst (λ (n : ℕ). text ++ trusted_below parts (suc addr) ≡ text ++ trusted_below parts n) next refl
+
+-- A replay of acts, frame by frame.
+
+-- The acts of a log: why one may come, and the transcript that they are.
+
+-- a job that begins is an act
+pub checks_begun : (s new : Summary) (asked : Job) → Begins {X = Unit {0}} s asked (Ok tt) new → ReplaysAct s (act.Begun asked) (Ok tt) new
+checks_begun s new asked begins =
+    (ap (λ (o : Option HostFault). option_map (λ fault. Refused fault) o) (sym begins.fault), go (accepted_job s asked) refl begins.ok)
+  where
+    go : (o : Option host.Job) → accepted_job s asked ≡ o → IsSomeAnd o (λ j. new ≡ host_next s (host.Accepted j)) →
+        IsSomeAnd (option_map (λ j. host.Accepted j) o) (λ entry. IsEntry s entry new)
+    go None is ok = absurd ok
+    go (Some job) is ok =
+        (ap (λ (o : Option HostFault). is_none o) (accepted-free s asked job is (sym begins.fault)), ok)
+
+-- one more claim
+claimed-suc : (s : Summary) (claims : List Claim) (j : ℕ) (d : Claim) → j < length claims →
+    is_claimed s (get_or claims j d) ≡ true → AreClaimed s (take j claims) → AreClaimed s (take (suc j) claims)
+claimed-suc s [] j d inside one known = absurd (omega (arith, inside))
+claimed-suc s (claim ∷ claims) zero d inside one known = (one, tt)
+claimed-suc s (claim ∷ claims) (suc j) d inside one known = (known.0, claimed-suc s claims j d (omega (arith, inside)) one known.1)
+
+pub claimed-more : (s : Summary) (claims : List Claim) (j : ℕ) (d : Claim) → j < length claims →
+    true ≡ is_claimed s (get_or claims j d) → AreClaimed s (take j claims) → AreClaimed s (take (j + 1) claims)
+claimed-more s claims j d inside one known =
+    let same : suc j ≡ j + 1 = omega arith in
+    subst (λ n. AreClaimed s (take n claims)) same (claimed-suc s claims j d inside (sym one) known)
+
+-- the transcript of acts, newest first, might come, and leaves what their replay does
+pub record Followed (setup : host.Setup) (acts : List Act) : Type 0 where
+  pub told : AreTold setup (entries_from (start setup) acts)
+  pub same : host_now setup (entries_from (start setup) acts) ≡ all_after (start setup) acts
+
+pub follow : TranscriptsAreFollowed → (setup : host.Setup) (acts : List Act) → IsSetup setup →
+    MightComeFrom (start setup) acts → Followed setup acts
+follow laws setup [] made come = record { told = tt; same = laws.none setup made }
+follow laws setup (act ∷ before) made come =
+    go (entry_of_act (all_after (start setup) before) act) refl come.1 (follow laws setup before made come.2)
+  where
+    go : (e : Option host.Entry) → entry_of_act (all_after (start setup) before) act ≡ e →
+        IsSomeAnd e (λ entry. may_come (all_after (start setup) before) entry ≡ true) →
+        Followed setup before → Followed setup (act ∷ before)
+    go None is may was = absurd may
+    go (Some entry) is may was =
+        let s = all_after (start setup) before in
+        let entries = entries_from (start setup) before in
+        let more : entries_from (start setup) (act ∷ before) ≡ entry ∷ entries
+        = ap (λ (o : Option host.Entry). option_to_list o ++ entries) is in
+        let after : all_after (start setup) (act ∷ before) ≡ host_next s entry
+        = ap (λ (o : Option host.Entry). option_map_or (λ e. host_next s e) o s) is in
+        let told : AreTold setup (entry ∷ entries)
+        = (subst (λ (t : Summary). may_come t entry ≡ true) (sym was.same) may, was.told) in
+        record {
+          told = subst (λ (es : List host.Entry). AreTold setup es) (sym more) told;
+          same = ap (λ (es : List host.Entry). host_now setup es) more
+              ∙ (laws.more setup entries entry made told
+              ∙ (ap (λ (t : Summary). host_next t entry) was.same ∙ sym after));
+        }
+
+-- The bytes of a frame, as a function of its message.
+
+pub frame-is : (addr : ℕ) (message : Message) (bytes : List ℕ) → IsFrameOf addr message bytes → bytes ≡ frame_of_message addr message
+frame-is addr message bytes frame = go (is_read_message message) refl where
+  go : (b : Bool) → is_read_message message ≡ b → bytes ≡ cond b (sent addr message) (with_pec [] (sent addr message))
+  go true e = (frame.request e).spelled
+  go false e = (frame.write e).spelled
+
+pub own_is : (s : Summary) (bytes frame : List ℕ) → IsSomeAnd (sending_in s) (λ message. IsFrameOf s.setup.addr message bytes) →
+    bytes_eq bytes frame ≡ is_own s frame
+own_is s bytes frame shown = go (sending_in s) shown where
+  go : (m : Option Message) → IsSomeAnd m (λ message. IsFrameOf s.setup.addr message bytes) →
+      bytes_eq bytes frame ≡ option_map_or (λ message. bytes_eq (frame_of_message s.setup.addr message) frame) m false
+  go None is = absurd is
+  go (Some message) is = ap (λ (b : List ℕ). bytes_eq b frame) (frame-is s.setup.addr message bytes is)

@@ -1,3 +1,2 @@
 mod Follow
-mod Checks
 mod Texts

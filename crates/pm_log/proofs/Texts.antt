@@ -15,17 +15,19 @@ use Rattle.pm_lines.specs.Lines.{has_bytes, is_line_feed, without_empty_last}
 use Rattle.pm_lines.specs.declared.fault.TextFault.TheVariants.{Syntax, BadHex, TooLong, Read, Write, Memory, Setup}
 use Rattle.pm_trace.specs.Lemmas.Said.{last_kept}
 use Rattle.pm_trace.specs.Lemmas.Marks.{ended-mark, ended-other, since-mark, since-other, split-ended}
-use Rattle.pm_trace.specs.Marks.{ended, since}
+use Rattle.pm_trace.specs.Marks.{ended_pieces, since}
 use Rattle.pm_text.specs.declared.scenario.fault.ScenarioFault.{ScenarioFault}
-use Rattle.pm_log.specs.{Lines.said, Verdicts.refusal_text, declared.checked.Refusal.Refusal, declared.checking.LogEnd.LogEnd}
+use Rattle.pm_log.specs.{Lines.said_by_line, Verdicts.refusal_text, declared.checked.Refusal.Refusal, declared.checking.LogEnd.LogEnd}
 use Rattle.pm_log.specs.{declared.checking.LogEnd.TheVariants.Refused, declared.fault.LogFault.LogFault}
 use Rattle.pm_log.specs.{declared.fault.LogFault.TheVariants.Line, declared.log_line.LogLine.LogLine}
-use Rattle.pm_log.specs.Laws.{TextLines, known_by, known_of, ok_line}
-use Rattle.pm_log.specs.Logs.{Checked, Known, at_end, has_head, judged, known_with, line_said, max_line, no_line, nothing, or_refused}
-use Rattle.pm_log.specs.Logs.{read_judged, with_line}
+use Rattle.pm_log.specs.Laws.{TextLines, known_by_line, known_of_lines, ok_line}
+use Rattle.pm_log.specs.Logs.{Checked, Known, at_end, has_head, line_accepted, known_after_line, line_said, max_line, no_line}
+use Rattle.pm_log.specs.Logs.{known_before_lines, or_refused}
+use Rattle.pm_log.specs.Logs.{accepted_if_read, with_line}
 use Rattle.pm_log.specs.TakenLogs.{StopsPiece, Taken, TakesPiece}
-use Rattle.pm_log.specs.Texts.{log_end, log_of, log_text, Breaks, IsAll, LogEnds, Kept, checked_lines, ended as ended_log, finished}
-use Rattle.pm_log.specs.Texts.{kept_of, line_with, no_byte, raw_lines, with_byte, most_bytes}
+use Rattle.pm_log.specs.Texts.{log_end, log_of, log_text, Breaks, IsAll, LogEnds, Kept, checked_lines, ended_text as ended_log}
+use Rattle.pm_log.specs.Texts.{last_line_ended}
+use Rattle.pm_log.specs.Texts.{log_kept_of, line_with, no_byte, raw_lines, with_byte, most_log_bytes}
 
 -- What is written of a log of no bytes.
 
@@ -108,10 +110,10 @@ lemmas_front_said number line = go (nat_lt max_line (length line)) refl
     go true long = rw (long, long_front max_line line long) refl
     go false short = ap (λ (l : List ℕ). line_said (number, l)) (take_all (max_line + 1) line (short_size max_line line short))
 
-front_known : (log : Result Known Refusal) (number : ℕ) (line : List ℕ) → known_with log (number, kept_front line) ≡ known_with log (number, line)
+front_known : (log : Result Known Refusal) (number : ℕ) (line : List ℕ) → known_after_line log (number, kept_front line) ≡ known_after_line log (number, line)
 front_known (Err refusal) number line = refl
 front_known (Ok known) number line =
-    ap (λ (r : Result LogLine ScenarioFault). or_refused number (read_judged number known r)) (lemmas_front_said number line)
+    ap (λ (r : Result LogLine ScenarioFault). or_refused number (accepted_if_read number known r)) (lemmas_front_said number line)
 
 front_line : (checked : Checked) (line : List ℕ) → with_line checked (kept_front line) ≡ with_line checked line
 unfolding with_line
@@ -149,7 +151,7 @@ abbrev state : List PartRegisters → List ℕ → Kept
 state allowed bytes = record {
   line = kept_front (since is_line_feed bytes);
   taken = length bytes;
-  checked = checked_lines allowed (ended is_line_feed bytes);
+  checked = checked_lines allowed (ended_pieces is_line_feed bytes);
 }
 
 one_more : (front : List ℕ) (byte : ℕ) → length front + 1 ≡ length (front ++ byte ∷ [])
@@ -163,16 +165,17 @@ state_more allowed front byte = go (is_line_feed byte) refl
     go true is =
         let line : [] ≡ kept_front (since is_line_feed (front ++ byte ∷ []))
         = sym front_none ∙ ap kept_front (sym (since-mark is_line_feed front byte is)) in
-        let checked : with_line (checked_lines allowed (ended is_line_feed front)) (kept_front (since is_line_feed front))
-        ≡ checked_lines allowed (ended is_line_feed (front ++ byte ∷ []))
-        = front_line (checked_lines allowed (ended is_line_feed front)) (since is_line_feed front)
+        let checked : with_line (checked_lines allowed (ended_pieces is_line_feed front)) (kept_front (since is_line_feed front))
+        ≡ checked_lines allowed (ended_pieces is_line_feed (front ++ byte ∷ []))
+        = front_line (checked_lines allowed (ended_pieces is_line_feed front)) (since is_line_feed front)
         ∙ sym (ap (checked_lines allowed) (ended-mark is_line_feed front byte is)
-        ∙ fold-append with_line (no_line allowed) (ended is_line_feed front) (since is_line_feed front ∷ [])) in
+        ∙ fold-append with_line (no_line allowed) (ended_pieces is_line_feed front) (since is_line_feed front ∷ [])) in
         rw is (λ i. record { line = line i; taken = one_more front byte i; checked = checked i })
     go false other =
         let line : line_with (kept_front (since is_line_feed front)) byte ≡ kept_front (since is_line_feed (front ++ byte ∷ []))
         = front_more (since is_line_feed front) byte ∙ ap kept_front (sym (since-other is_line_feed front byte other)) in
-        let checked : checked_lines allowed (ended is_line_feed front) ≡ checked_lines allowed (ended is_line_feed (front ++ byte ∷ []))
+        let checked : checked_lines allowed (ended_pieces is_line_feed front)
+        ≡ checked_lines allowed (ended_pieces is_line_feed (front ++ byte ∷ []))
         = ap (checked_lines allowed) (sym (ended-other is_line_feed front byte other)) in
         rw other (λ i. record { line = line i; taken = one_more front byte i; checked = checked i })
 
@@ -182,33 +185,36 @@ all_kept allowed front (byte ∷ rest) =
     ap (λ (k : Kept). fold with_byte k rest) (state_more allowed front byte) ∙ all_kept allowed (front ++ byte ∷ []) rest
     ∙ ap (state allowed) (append_assoc front (byte ∷ []) rest)
 
-kept_state : (allowed : List PartRegisters) (bytes : List ℕ) → kept_of allowed bytes ≡ state allowed bytes
+kept_state : (allowed : List PartRegisters) (bytes : List ℕ) → log_kept_of allowed bytes ≡ state allowed bytes
 kept_state allowed bytes = ap (λ (l : List ℕ). fold with_byte (record { line = l; taken = 0; checked = no_line allowed }) bytes) (sym front_none) ∙ all_kept allowed [] bytes
 
 -- what is kept counts the bytes
-pub taken_is : (allowed : List PartRegisters) (bytes : List ℕ) → (kept_of allowed bytes).taken ≡ length bytes
+pub taken_is : (allowed : List PartRegisters) (bytes : List ℕ) → (log_kept_of allowed bytes).taken ≡ length bytes
 taken_is allowed bytes = ap (λ (k : Kept). k.taken) (kept_state allowed bytes)
 
 -- what is kept of further bytes
-pub kept_more : (allowed : List PartRegisters) (front rest : List ℕ) → fold with_byte (kept_of allowed front) rest ≡ kept_of allowed (front ++ rest)
+pub kept_more : (allowed : List PartRegisters) (front rest : List ℕ) → fold with_byte (log_kept_of allowed front) rest ≡ log_kept_of allowed (front ++ rest)
 kept_more allowed front rest = sym (fold-append with_byte (no_byte allowed) front rest)
 
 -- at the end
-lines_are : (text : List ℕ) → raw_lines text ≡ ended is_line_feed text ++ cond (has_bytes (since is_line_feed text)) (since is_line_feed text ∷ []) []
-lines_are text = ap without_empty_last (split-ended is_line_feed text) ∙ last_kept (ended is_line_feed text) (since is_line_feed text)
+lines_are : (text : List ℕ) → raw_lines text ≡ ended_pieces is_line_feed text ++ cond (has_bytes (since is_line_feed text)) (since is_line_feed text ∷ []) []
+lines_are text = ap without_empty_last (split-ended is_line_feed text)
+    ∙ last_kept (ended_pieces is_line_feed text) (since is_line_feed text)
 
-state_end : (allowed : List PartRegisters) (text : List ℕ) → finished (state allowed text) ≡ checked_lines allowed (raw_lines text)
+state_end : (allowed : List PartRegisters) (text : List ℕ) → last_line_ended (state allowed text) ≡ checked_lines allowed (raw_lines text)
 state_end allowed text = rw (front_some (since is_line_feed text)) (go (has_bytes (since is_line_feed text)) ∙ sym (ap (checked_lines allowed) (lines_are text)))
   where
-    go : (b : Bool) → cond b (with_line (checked_lines allowed (ended is_line_feed text)) (kept_front (since is_line_feed text))) (checked_lines allowed (ended is_line_feed text))
-        ≡ checked_lines allowed (ended is_line_feed text ++ cond b (since is_line_feed text ∷ []) [])
-    go true = front_line (checked_lines allowed (ended is_line_feed text)) (since is_line_feed text)
-        ∙ sym (fold-append with_line (no_line allowed) (ended is_line_feed text) (since is_line_feed text ∷ []))
-    go false = ap (checked_lines allowed) (sym (append-nil (ended is_line_feed text)))
+    go : (b : Bool) → cond b (with_line (checked_lines allowed (ended_pieces is_line_feed text)) (kept_front (since is_line_feed text))) (checked_lines allowed (ended_pieces is_line_feed text))
+        ≡ checked_lines allowed (ended_pieces is_line_feed text ++ cond b (since is_line_feed text ∷ []) [])
+    go true = front_line (checked_lines allowed (ended_pieces is_line_feed text)) (since is_line_feed text)
+        ∙ sym (fold-append with_line (no_line allowed) (ended_pieces is_line_feed text) (since is_line_feed text ∷ []))
+    go false = ap (checked_lines allowed) (sym (append-nil (ended_pieces is_line_feed text)))
 
-pub finished_is : (allowed : List PartRegisters) (text : List ℕ) → ended_log (finished (kept_of allowed text)) ≡ log_of allowed text
+pub finished_is : (allowed : List PartRegisters) (text : List ℕ) → ended_log (last_line_ended (log_kept_of allowed text))
+    ≡ log_of allowed text
 unfolding log_of
-finished_is allowed text = ap (λ (k : Kept). ended_log (finished k)) (kept_state allowed text) ∙ ap ended_log (state_end allowed text)
+finished_is allowed text = ap (λ (k : Kept). ended_log (last_line_ended k)) (kept_state allowed text)
+    ∙ ap ended_log (state_end allowed text)
 
 -- ---- the lines of a text that is accepted
 
@@ -223,7 +229,7 @@ module _ (allowed : List PartRegisters) where
   record ReadLines (n : ℕ) (lines : List (List ℕ)) (before : List LogLine) (known : Known) : Type 0 where
     said : List LogLine
     read : map line_said (enumerate_from (n + 1) lines) ≡ map ok_line said
-    come : known_of allowed (reverse said ++ before) ≡ Ok known
+    come : known_of_lines allowed (reverse said ++ before) ≡ Ok known
 
 same_log : (r : Result Known Refusal) (a b : Known) → r ≡ Ok a → r ≡ Ok b → a ≡ b
 same_log r a b made is = cc
@@ -245,7 +251,7 @@ module _ (allowed : List PartRegisters) where
   first_line n text lines before line known is rest = record {
     said = line ∷ rest.said;
     read = rw is (ap (λ (l : List (Result LogLine ScenarioFault)). Ok line ∷ l) rest.read);
-    come = ap (known_of allowed) (joined (reverse-append (line ∷ []) rest.said)) ∙ rest.come;
+    come = ap (known_of_lines allowed) (joined (reverse-append (line ∷ []) rest.said)) ∙ rest.come;
   }
     where
       joined : reverse (line ∷ rest.said) ≡ reverse rest.said ++ line ∷ [] → reverse (line ∷ rest.said) ++ before ≡ reverse rest.said ++ line ∷ before
@@ -253,32 +259,32 @@ module _ (allowed : List PartRegisters) where
 
   -- what is left to say of the lines after the first
   abbrev Rest : ℕ → List (List ℕ) → List LogLine → Known → Type 0
-  Rest n lines before known = (next : Known) (line : LogLine) → known_of allowed (line ∷ before) ≡ Ok next →
+  Rest n lines before known = (next : Known) (line : LogLine) → known_of_lines allowed (line ∷ before) ≡ Ok next →
       (fold with_line (record { ended = n + 1; log = Ok next }) lines).log ≡ Ok known →
       ReadLines allowed (n + 1) lines (line ∷ before) known
 
   -- what was known of the lines before, whose number this is
   record Was (n : ℕ) (before : List LogLine) (was : Known) : Type 0 where
     size : length before ≡ n
-    at : known_of allowed before ≡ Ok was
+    at : known_of_lines allowed before ≡ Ok was
 
   judged_line : (n : ℕ) (text : List ℕ) (lines : List (List ℕ)) (was known : Known) (before : List LogLine) (line : LogLine)
-      (r : Result Known LogFault) → Was n before was → line_said (n + 1, text) ≡ Ok line → judged (n + 1) was line ≡ r →
+      (r : Result Known LogFault) → Was n before was → line_said (n + 1, text) ≡ Ok line → line_accepted (n + 1) was line ≡ r →
       (fold with_line (record { ended = n + 1; log = or_refused (n + 1) r }) lines).log ≡ Ok known →
       Rest n lines before known → ReadLines allowed n (text ∷ lines) before known
   judged_line n text lines was known before line (Ok next) so_far said is left rest =
       first_line n text lines before line known said
-      (rest next line (ap (λ (r : Result Known LogFault). known_by (length before + 1) r line) so_far.at
-      ∙ ap (λ (m : ℕ). judged (m + 1) was line) so_far.size ∙ is) left)
+      (rest next line (ap (λ (r : Result Known LogFault). known_by_line (length before + 1) r line) so_far.at
+      ∙ ap (λ (m : ℕ). line_accepted (m + 1) was line) so_far.size ∙ is) left)
   judged_line n text lines was known before line (Err fault) so_far said is left rest =
       no_refusal _ _ known (stays lines (n + 1) (record { line = n + 1; fault = fault })) left
 
   said_line : (n : ℕ) (text : List ℕ) (lines : List (List ℕ)) (was known : Known) (before : List LogLine)
       (r : Result LogLine ScenarioFault) → Was n before was → line_said (n + 1, text) ≡ r →
-      (fold with_line (record { ended = n + 1; log = or_refused (n + 1) (read_judged (n + 1) was r) }) lines).log ≡ Ok known →
+      (fold with_line (record { ended = n + 1; log = or_refused (n + 1) (accepted_if_read (n + 1) was r) }) lines).log ≡ Ok known →
       Rest n lines before known → ReadLines allowed n (text ∷ lines) before known
   said_line n text lines was known before (Ok line) so_far said left rest =
-      judged_line n text lines was known before line (judged (n + 1) was line) so_far said refl left rest
+      judged_line n text lines was known before line (line_accepted (n + 1) was line) so_far said refl left rest
   said_line n text lines was known before (Err fault) so_far said left rest =
       no_refusal _ _ known (stays lines (n + 1) (record { line = n + 1; fault = Line fault })) left
 
@@ -305,12 +311,12 @@ pub text_lines : (allowed : List PartRegisters) (text : List ℕ) (known : Known
     TextLines allowed text known
 unfolding log_of
 text_lines allowed text known is =
-    let found = read_lines allowed (raw_lines text) 0 (nothing allowed) known [] (record { size = refl; at = refl })
+    let found = read_lines allowed (raw_lines text) 0 (known_before_lines allowed) known [] (record { size = refl; at = refl })
     (ended_ok _ (checked_lines allowed (raw_lines text)).log known is) in
     record {
       lines = found.said;
       read = found.read;
-      come = ap (known_of allowed) (sym (append-nil (reverse found.said))) ∙ found.come;
+      come = ap (known_of_lines allowed) (sym (append-nil (reverse found.said))) ∙ found.come;
     }
 
 -- What was taken of a reader, with a piece more, and at its end.
@@ -324,7 +330,7 @@ module _ (allowed : List PartRegisters) (r0 r1 : Option (List ℕ)) (front : Lis
   pub taken_now : old.taken ≡ length front
   taken_now = ap (λ (k : Kept). k.taken) taken.kept_is ∙ taken_is allowed front
 
-  pub room_now : old.taken ≤ most_bytes
+  pub room_now : old.taken ≤ most_log_bytes
   room_now = let now = taken_now in let short = taken.short in omega (arith, now, short)
 
   -- the reader has no more

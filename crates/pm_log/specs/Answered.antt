@@ -23,17 +23,18 @@ read_cell (PagePlusRead page code) = cell_at code page
 read_cell _ = None
 
 -- the cell for which the part at an address answered: the request is one for it, and the answer is good
-abbrev pub answered_by : Option FrameFault → Option FrameFault → Message → Option Cell
-answered_by None None request = read_cell request
-answered_by _ _ request = None
+abbrev pub cell_well_answered : Option FrameFault → Option FrameFault → Message → Option Cell
+cell_well_answered None None request = read_cell request
+cell_well_answered _ _ request = None
 
 unfoldable pub answered_cell : ℕ → List ℕ → List ℕ → Option Cell
-answered_cell addr frame bytes = answered_by (request_fault addr frame) (answer_fault addr (message_in frame) bytes) (message_in frame)
+answered_cell addr frame bytes =
+    cell_well_answered (request_fault addr frame) (answer_fault addr (message_in frame) bytes) (message_in frame)
 
 -- the cell for which what came of a frame is an answer
-abbrev pub answer_in : ℕ → List ℕ → Entry → Option Cell
-answer_in addr frame (Got bytes) = answered_cell addr frame bytes
-answer_in addr frame _ = None
+abbrev pub cell_of_answer : ℕ → List ℕ → Entry → Option Cell
+cell_of_answer addr frame (Got bytes) = answered_cell addr frame bytes
+cell_of_answer addr frame _ = None
 
 -- ---- the lines of the answers
 

@@ -13,9 +13,9 @@ use Rattle.pm_host.specs.declared.host.Told.TheVariants as told
 use Rattle.pm_frame.specs.declared.message.Message.{Message}
 use Rattle.pm_frame.specs.Layout.{is_read_message, sent, with_pec}
 use Rattle.pm_host.specs.Jobs.{accepted_job, begin_fault}
-use Rattle.pm_host.specs.Now.{now, AreTold}
+use Rattle.pm_host.specs.Now.{host_now, AreTold}
 use Rattle.pm_host.specs.Refusals.{IsSetup, is_busy, may_come, sends_read, sends_write, setup_fault}
-use Rattle.pm_host.specs.Summary.{Summary, next, possible_at, sending_in, start}
+use Rattle.pm_host.specs.Summary.{Summary, host_next, possible_at, sending_in, start}
 use Rattle.pm_host.specs.Told.{entry_told}
 use Rattle.pm_host.specs.Transcript.{Setup, Entry, Accepted, Restarted}
 use Rattle.pm_log.specs.declared.act.Act.{Act}
@@ -33,52 +33,52 @@ use Rattle.pm_log.specs.declared.check_fault.CheckFault.TheVariants as check
 
 -- The entry of a host's transcript that an act is, for a host that holds this. An order in microvolts is that of its word;
 -- None where it has none.
-abbrev pub entry_of : Summary → Act → Option Entry
-entry_of s (act.Begun job) = option_map (λ begun. Accepted begun) (accepted_job s job)
-entry_of s (act.Sent frame told) = Some (entry_told told)
-entry_of s act.Restarted = Some Restarted
+abbrev pub entry_of_act : Summary → Act → Option Entry
+entry_of_act s (act.Begun job) = option_map (λ begun. Accepted begun) (accepted_job s job)
+entry_of_act s (act.Sent frame told) = Some (entry_told told)
+entry_of_act s act.Restarted = Some Restarted
 
 -- the bytes that a host sends for a message: all of a write, a request up to its repeated start; these are those of what is sent
-abbrev pub frame_of : ℕ → Message → List ℕ
-frame_of addr message = if is_read_message message then sent addr message else with_pec [] (sent addr message)
+abbrev pub frame_of_message : ℕ → Message → List ℕ
+frame_of_message addr message = if is_read_message message then sent addr message else with_pec [] (sent addr message)
 
 abbrev pub is_own : Summary → List ℕ → Bool
-is_own s frame = option_map_or (λ message. bytes_eq (frame_of s.setup.addr message) frame) (sending_in s) false
+is_own s frame = option_map_or (λ message. bytes_eq (frame_of_message s.setup.addr message) frame) (sending_in s) false
 
 -- why an act can't have come: the host refuses the job, sends nothing, sends another frame, or one of the other kind
-abbrev pub is_awaited : Summary → Told → Bool
-is_awaited s (told.Finished acked) = sends_write s
-is_awaited s (told.Got bytes) = sends_read s
+abbrev pub host_awaits : Summary → Told → Bool
+host_awaits s (told.Finished acked) = sends_write s
+host_awaits s (told.Got bytes) = sends_read s
 
-abbrev pub told_fault : Summary → List ℕ → Told → Option ActFault
-told_fault s frame told = first (
+abbrev pub host_told_fault : Summary → List ℕ → Told → Option ActFault
+host_told_fault s frame told = first (
     rule (not (is_busy s)) NothingSent ∷
     rule (not (is_own s frame)) OtherFrame ∷
-    rule (not (is_awaited s told)) WrongKind ∷
+    rule (not (host_awaits s told)) WrongKind ∷
     [])
 
 abbrev pub act_fault : Summary → Act → Option ActFault
 act_fault s (act.Begun job) = option_map (λ fault. Refused fault) (begin_fault s job)
-act_fault s (act.Sent frame told) = told_fault s frame.now told
+act_fault s (act.Sent frame told) = host_told_fault s frame.now told
 act_fault s act.Restarted = None
 
 -- an act came: nothing is against it, and its entry is one that might come
 abbrev pub IsEntry : Summary → Entry → Summary → Type 0
-IsEntry old entry new = (may_come old entry ≡ true) × (new ≡ next old entry)
+IsEntry old entry new = (may_come old entry ≡ true) × (new ≡ host_next old entry)
 
 -- what a call does that replays an act, and one that replays what came of a frame
-abbrev pub Acts : Summary → Act → Result (Unit {0}) ActFault → Summary → Type 0
-Acts old act (Ok done) new =
-    (act_fault old act ≡ None) × IsSomeAnd (entry_of old act) (λ entry. IsEntry old entry new)
-Acts old act (Err fault) new = (act_fault old act ≡ Some fault) × (new ≡ old)
+abbrev pub ReplaysAct : Summary → Act → Result (Unit {0}) ActFault → Summary → Type 0
+ReplaysAct old act (Ok done) new =
+    (act_fault old act ≡ None) × IsSomeAnd (entry_of_act old act) (λ entry. IsEntry old entry new)
+ReplaysAct old act (Err fault) new = (act_fault old act ≡ Some fault) × (new ≡ old)
 
 abbrev pub Tells : Summary → List ℕ → Told → Result (Unit {0}) ActFault → Summary → Type 0
-Tells old frame told (Ok done) new = (told_fault old frame told ≡ None) × IsEntry old (entry_told told) new
-Tells old frame told (Err fault) new = (told_fault old frame told ≡ Some fault) × (new ≡ old)
+Tells old frame told (Ok done) new = (host_told_fault old frame told ≡ None) × IsEntry old (entry_told told) new
+Tells old frame told (Err fault) new = (host_told_fault old frame told ≡ Some fault) × (new ≡ old)
 
 -- what an act makes of what a host holds
 abbrev pub act_next : Summary → Act → Summary
-act_next s act = option_map_or (λ entry. next s entry) (entry_of s act) s
+act_next s act = option_map_or (λ entry. host_next s entry) (entry_of_act s act) s
 
 -- what a host holds after acts, newest first, and the entries of its transcript that they are
 abbrev pub all_after : Summary → List Act → Summary
@@ -87,13 +87,13 @@ all_after s (act ∷ before) = act_next (all_after s before) act
 
 abbrev pub entries_from : Summary → List Act → List Entry
 entries_from s [] = []
-entries_from s (act ∷ before) = option_to_list (entry_of (all_after s before) act) ++ entries_from s before
+entries_from s (act ∷ before) = option_to_list (entry_of_act (all_after s before) act) ++ entries_from s before
 
 -- each of the acts might come where it stands
 abbrev pub MightComeFrom : Summary → List Act → Type 0
 MightComeFrom s [] = Unit {0}
 MightComeFrom s (act ∷ before) = (act_fault (all_after s before) act ≡ None)
-    × IsSomeAnd (entry_of (all_after s before) act) (λ entry. may_come (all_after s before) entry ≡ true)
+    × IsSomeAnd (entry_of_act (all_after s before) act) (λ entry. may_come (all_after s before) entry ≡ true)
     × MightComeFrom s before
 
 -- a log, oldest first: what a new host holds after it, its transcript, newest first, and whether its acts might come
@@ -171,4 +171,4 @@ pub record LogsAreTranscripts : Type 0 where
   pub told : (setup : Setup) (acts : List Act) → IsSetup setup → MightCome setup acts →
       AreTold setup (transcript setup acts)
   pub same : (setup : Setup) (acts : List Act) → IsSetup setup → MightCome setup acts →
-      now setup (transcript setup acts) ≡ replayed setup acts
+      host_now setup (transcript setup acts) ≡ replayed setup acts

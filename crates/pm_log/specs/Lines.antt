@@ -71,8 +71,8 @@ commands_rest = do
   gives (Claimed (Commands output part least most))
 
 -- a line by its words
-unfoldable pub marked : Field LogLine
-marked = one_of ((codes "#log", head_rest) ∷ (codes "#holds", holds_rest) ∷ (codes "#commands", commands_rest) ∷ [])
+unfoldable pub line_by_mark : Field LogLine
+line_by_mark = one_of ((codes "#log", head_rest) ∷ (codes "#holds", holds_rest) ∷ (codes "#commands", commands_rest) ∷ [])
 
 -- ---- a packet
 
@@ -105,8 +105,8 @@ abbrev pub is_note : List ℕ → Bool
 is_note text = list_all is_space text || starts_with nat_eq text (codes "##")
 
 -- what a line says, by its number and its bytes
-abbrev pub said : Numbered → Result LogLine ScenarioFault
-said line = if is_note line.1 then Ok Note
+abbrev pub said_by_line : Numbered → Result LogLine ScenarioFault
+said_by_line line = if is_note line.1 then Ok Note
     else (if starts_with nat_eq line.1 (codes "#failed ") then failed_in line.0 (packet (line.0, drop 8 line.1))
-    else (if starts_with nat_eq line.1 (codes "#") then line_as marked line
+    else (if starts_with nat_eq line.1 (codes "#") then line_as line_by_mark line
     else sent_in (packet line)))

@@ -15,9 +15,9 @@ use Rattle.pm_limits.specs.declared.part_registers.PartRegisters.{PartRegisters}
 use Rattle.pm_lines.specs.Lines.{Numbered, without_return}
 use Rattle.pm_text.specs.declared.scenario.fault.ScenarioFault.{ScenarioFault}
 use Rattle.pm_text.specs.declared.scenario.fault.ScenarioFault.TheVariants.{Syntax}
-use Rattle.pm_log.specs.Answered.{answer_in, belied, no_answers, with_answer}
+use Rattle.pm_log.specs.Answered.{cell_of_answer, belied, no_answers, with_answer}
 use Rattle.pm_log.specs.Lacks.{has_all, lacking_more, lacks_nothing, not_allowed, part_at}
-use Rattle.pm_log.specs.Lines.{said}
+use Rattle.pm_log.specs.Lines.{said_by_line}
 use Rattle.pm_log.specs.Replays.{transferred}
 use Rattle.pm_log.specs.declared.checked.Refusal.{Refusal}
 use Rattle.pm_log.specs.declared.fault.LogFault.{LogFault}
@@ -37,8 +37,8 @@ pub record Known : Type 0 where
   pub allowed : List PartRegisters
   pub without : List PartRegisters
 
-abbrev pub nothing : List PartRegisters → Known
-nothing allowed = record {
+abbrev pub known_before_lines : List PartRegisters → Known
+known_before_lines allowed = record {
   host = None;
   answers = no_answers;
   claims = 0;
@@ -52,12 +52,12 @@ nothing allowed = record {
 abbrev pub is_address : ℕ → Bool
 is_address addr = nat_le 0x08 addr && nat_le addr 0x77
 
-abbrev pub begun_with : Known → Option HostFault → Setup → Result Known LogFault
-begun_with known (Some fault) setup = Err (NoHost fault)
-begun_with known None setup = Ok (record known { host = Some (start setup); answers = no_answers })
+abbrev pub known_with_host : Known → Option HostFault → Setup → Result Known LogFault
+known_with_host known (Some fault) setup = Err (NoHost fault)
+known_with_host known None setup = Ok (record known { host = Some (start setup); answers = no_answers })
 
 abbrev pub headed : Known → Setup → Result Known LogFault
-headed known setup = if is_address setup.addr then begun_with known (setup_fault setup.outputs setup.passes) setup
+headed known setup = if is_address setup.addr then known_with_host known (setup_fault setup.outputs setup.passes) setup
     else Err Address
 
 -- ---- a claim
@@ -67,9 +67,9 @@ abbrev pub left_possible : Summary → Cell → Possible
 left_possible s cell = if is_cell s.setup.outputs cell then possible_at s cell else Any
 
 -- why a claim isn't known
-abbrev pub unknown : Summary → Claim → LogFault
-unknown s (Holds cell word) = Word cell word (left_possible s cell)
-unknown s (Commands output part least most) = Voltage output least most
+abbrev pub unknown_claim : Summary → Claim → LogFault
+unknown_claim s (Holds cell word) = Word cell word (left_possible s cell)
+unknown_claim s (Commands output part least most) = Voltage output least most
 
 -- Why a claim isn't looked at, which says that the part at an address lacks registers: it answered a read of one, or the receiver doesn't allow one.
 abbrev pub lacking_fault : ℕ → PartRegisters → Option LogFault
@@ -85,16 +85,16 @@ distrusted known addr (Commands output part least most) = answered_or (belied kn
     (lacking_fault addr (not_allowed (part_at known.allowed addr) part))
 
 -- a claim was accepted, of the part at this address
-abbrev pub lacking_by : List PartRegisters → ℕ → Claim → List PartRegisters
-lacking_by without addr (Holds cell word) = without
-lacking_by without addr (Commands output part least most) = lacking_more without addr part
+abbrev pub lacking_by_claim : List PartRegisters → ℕ → Claim → List PartRegisters
+lacking_by_claim without addr (Holds cell word) = without
+lacking_by_claim without addr (Commands output part least most) = lacking_more without addr part
 
 abbrev pub with_claim : Known → ℕ → Claim → Known
-with_claim known addr claim = record known { claims = known.claims + 1; without = lacking_by known.without addr claim }
+with_claim known addr claim = record known { claims = known.claims + 1; without = lacking_by_claim known.without addr claim }
 
 abbrev pub trusted : Option LogFault → Known → Summary → Claim → Result Known LogFault
 trusted (Some fault) known s claim = Err fault
-trusted None known s claim = if is_claimed s claim then Ok (with_claim known s.setup.addr claim) else Err (unknown s claim)
+trusted None known s claim = if is_claimed s claim then Ok (with_claim known s.setup.addr claim) else Err (unknown_claim s claim)
 
 abbrev pub claimed : Known → Option Summary → Claim → Result Known LogFault
 claimed known None claim = Err NoHead
@@ -106,16 +106,16 @@ abbrev pub one_if : Bool → ℕ
 one_if false = 0
 one_if true = 1
 
-abbrev pub told_with : Known → List (Option ℕ) → Result (Summary × Bool) LogFault → Result Known LogFault
-told_with known answers (Ok (s, is_told)) =
+abbrev pub known_told_with : Known → List (Option ℕ) → Result (Summary × Bool) LogFault → Result Known LogFault
+known_told_with known answers (Ok (s, is_told)) =
     Ok (record known { host = Some s; answers = answers; transfers = known.transfers + one_if is_told })
-told_with known answers (Err fault) = Err fault
+known_told_with known answers (Err fault) = Err fault
 
 -- a transfer of the line with this number
-abbrev pub told : ℕ → Known → Option Summary → List ℕ → Entry → Result Known LogFault
-told number known None frame entry = Err NoHead
-told number known (Some s) frame entry =
-    told_with known (with_answer number known.answers (answer_in s.setup.addr frame entry)) (transferred s frame entry)
+abbrev pub transfer_told : ℕ → Known → Option Summary → List ℕ → Entry → Result Known LogFault
+transfer_told number known None frame entry = Err NoHead
+transfer_told number known (Some s) frame entry =
+    known_told_with known (with_answer number known.answers (cell_of_answer s.setup.addr frame entry)) (transferred s frame entry)
 
 -- what came of a packet: an answer, or the acknowledgement of a write
 abbrev pub came_of : Option (List ℕ) → Entry
@@ -125,16 +125,16 @@ came_of None = Finished true
 -- ---- a line
 
 -- what is known with one line more, of this number, or why it isn't accepted
-abbrev pub judged : ℕ → Known → LogLine → Result Known LogFault
-judged number known Note = Ok known
-judged number known (Head addr outputs passes) = headed known (record { addr = addr; outputs = outputs; passes = passes })
-judged number known (Claimed claim) = claimed known known.host claim
-judged number known (Sent parts) = told number known known.host parts.write (came_of parts.read)
-judged number known (Failed write) = told number known known.host write (Finished false)
+abbrev pub line_accepted : ℕ → Known → LogLine → Result Known LogFault
+line_accepted number known Note = Ok known
+line_accepted number known (Head addr outputs passes) = headed known (record { addr = addr; outputs = outputs; passes = passes })
+line_accepted number known (Claimed claim) = claimed known known.host claim
+line_accepted number known (Sent parts) = transfer_told number known known.host parts.write (came_of parts.read)
+line_accepted number known (Failed write) = transfer_told number known known.host write (Finished false)
 
-abbrev pub read_judged : ℕ → Known → Result LogLine ScenarioFault → Result Known LogFault
-read_judged number known (Ok line) = judged number known line
-read_judged number known (Err fault) = Err (Line fault)
+abbrev pub accepted_if_read : ℕ → Known → Result LogLine ScenarioFault → Result Known LogFault
+accepted_if_read number known (Ok line) = line_accepted number known line
+accepted_if_read number known (Err fault) = Err (Line fault)
 
 -- the most bytes that a line may have, with a carriage return
 unfoldable pub max_line : ℕ
@@ -142,7 +142,7 @@ max_line = 4096
 
 -- what a line says by its number and bytes
 abbrev pub line_said : Numbered → Result LogLine ScenarioFault
-line_said line = if nat_lt max_line (length line.1) then Err (Syntax line.0) else said (line.0, without_return line.1)
+line_said line = if nat_lt max_line (length line.1) then Err (Syntax line.0) else said_by_line (line.0, without_return line.1)
 
 -- ---- lines one after another
 
@@ -152,19 +152,19 @@ pub record Checked : Type 0 where
   pub log : Result Known Refusal
 
 abbrev pub no_line : List PartRegisters → Checked
-no_line allowed = record { ended = 0; log = Ok (nothing allowed) }
+no_line allowed = record { ended = 0; log = Ok (known_before_lines allowed) }
 
 abbrev pub or_refused : ℕ → Result Known LogFault → Result Known Refusal
 or_refused number (Ok known) = Ok known
 or_refused number (Err fault) = Err (record { line = number; fault = fault })
 
 -- what is known with one line more: nothing changes after the first that isn't accepted
-abbrev pub known_with : Result Known Refusal → Numbered → Result Known Refusal
-known_with (Err refusal) line = Err refusal
-known_with (Ok known) line = or_refused line.0 (read_judged line.0 known (line_said line))
+abbrev pub known_after_line : Result Known Refusal → Numbered → Result Known Refusal
+known_after_line (Err refusal) line = Err refusal
+known_after_line (Ok known) line = or_refused line.0 (accepted_if_read line.0 known (line_said line))
 
 unfoldable pub with_line : Checked → List ℕ → Checked
-with_line checked text = record { ended = checked.ended + 1; log = known_with checked.log (checked.ended + 1, text) }
+with_line checked text = record { ended = checked.ended + 1; log = known_after_line checked.log (checked.ended + 1, text) }
 
 -- a text needs a head
 abbrev pub has_head : ℕ → Result Known Refusal → Option Summary → Result Known Refusal

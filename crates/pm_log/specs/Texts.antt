@@ -9,7 +9,7 @@ use Rattle.pm_lines.specs.declared.fault.TextFault.{TextFault}
 use Rattle.pm_lines.specs.declared.fault.TextFault.TheVariants.{TooLong, Read, Write, Memory}
 use Rattle.pm_limits.specs.declared.part_registers.PartRegisters.{PartRegisters}
 use Rattle.pm_log.specs.Logs.{Checked, Known, at_end, max_line, no_line, with_line}
-use Rattle.pm_log.specs.Verdicts.{end_of, verdict_text}
+use Rattle.pm_log.specs.Verdicts.{log_end_of, verdict_text}
 use Rattle.pm_log.specs.declared.checked.Refusal.{Refusal}
 use Rattle.pm_log.specs.declared.checking.LogEnd.{LogEnd}
 
@@ -24,17 +24,17 @@ abbrev pub checked_lines : List PartRegisters → List (List ℕ) → Checked
 checked_lines allowed lines = fold with_line (no_line allowed) lines
 
 -- what a text comes to, what is written of it, and how that ends
-abbrev pub ended : Checked → Result Known Refusal
-ended checked = at_end checked.ended checked.log
+abbrev pub ended_text : Checked → Result Known Refusal
+ended_text checked = at_end checked.ended checked.log
 
 unfoldable pub log_of : List PartRegisters → List ℕ → Result Known Refusal
-log_of allowed text = ended (checked_lines allowed (raw_lines text))
+log_of allowed text = ended_text (checked_lines allowed (raw_lines text))
 
 abbrev pub log_text : List PartRegisters → List ℕ → List ℕ
 log_text allowed text = verdict_text (log_of allowed text)
 
 abbrev pub log_end : List PartRegisters → List ℕ → LogEnd
-log_end allowed text = end_of (log_of allowed text)
+log_end allowed text = log_end_of (log_of allowed text)
 
 -- ---- bytes one after another
 
@@ -56,29 +56,29 @@ with_byte kept byte = if is_line_feed byte
     then record { line = []; taken = kept.taken + 1; checked = with_line kept.checked kept.line }
     else record { line = line_with kept.line byte; taken = kept.taken + 1; checked = kept.checked }
 
-abbrev pub kept_of : List PartRegisters → List ℕ → Kept
-kept_of allowed bytes = fold with_byte (no_byte allowed) bytes
+abbrev pub log_kept_of : List PartRegisters → List ℕ → Kept
+log_kept_of allowed bytes = fold with_byte (no_byte allowed) bytes
 
 -- a last line without a line feed ends
-abbrev pub finished : Kept → Checked
-finished kept = if has_bytes kept.line then with_line kept.checked kept.line else kept.checked
+abbrev pub last_line_ended : Kept → Checked
+last_line_ended kept = if has_bytes kept.line then with_line kept.checked kept.line else kept.checked
 
 -- ---- an engine's run
 
 -- the most bytes that a log may have
-abbrev pub most_bytes : ℕ
-most_bytes = 2 ^ 63
+abbrev pub most_log_bytes : ℕ
+most_log_bytes = 2 ^ 63
 
 -- the reader gave these bytes and has no more
 pub record IsAll (old new : Option (List ℕ)) (text : List ℕ) : Type 0 where
   pub given : Consumes old new text
   pub ended : IsAtEnd new
-  pub short : length text ≤ most_bytes
+  pub short : length text ≤ most_log_bytes
 
 -- why nothing is written, by the bytes that the reader gave: more than a log may have; any, if a read failed; some,
 -- if memory was refused
 abbrev pub Breaks : Option (List ℕ) → Option (List ℕ) → TextFault → Type 0
-Breaks old new TooLong = (front : List ℕ) × (most_bytes < length front) × Consumes old new front
+Breaks old new TooLong = (front : List ℕ) × (most_log_bytes < length front) × Consumes old new front
 Breaks old new Read = (front : List ℕ) × Consumes old new front
 Breaks old new Memory = (front : List ℕ) × (0 < length front) × Consumes old new front
 Breaks old new _ = ⊥

@@ -24,8 +24,8 @@ use Rattle.pm_log.specs.declared.fault.LogFault.{LogFault}
 use Rattle.pm_log.specs.declared.fault.LogFault.TheVariants.{Line, NoHead, Address, Setup, Frame, NoJob, Refused, Answered, Lacks, Word, Voltage}
 
 -- `1 claim`, `3 claims`
-unfoldable pub counted : ℕ → List ℕ → List ℕ
-counted count what = decimal count ++ (codes " " ++ (what ++ (if count == 1 then [] else codes "s")))
+unfoldable pub counted_noun : ℕ → List ℕ → List ℕ
+counted_noun count what = decimal count ++ (codes " " ++ (what ++ (if count == 1 then [] else codes "s")))
 
 -- Registers that a part lacks, each after a mark: the first after one of its own.
 abbrev pub missing_name : PartRegisters → Reg → List ℕ → List ℕ
@@ -43,11 +43,11 @@ unfoldable pub missing_names : PartRegisters → List ℕ → List ℕ → List 
 missing_names part mark next = missing_from part may_lack mark next
 
 -- `; without VOUT_MAX VOUT_MIN of 58 by --lacks`, if the part at the address lacks any
-unfoldable pub taken_of : ℕ → List ℕ
-taken_of addr = codes " of " ++ (hex_byte addr ++ codes " by --lacks")
+unfoldable pub lacks_source_text : ℕ → List ℕ
+lacks_source_text addr = codes " of " ++ (hex_byte addr ++ codes " by --lacks")
 
 unfoldable pub taken_text : ℕ → PartRegisters → List ℕ
-taken_text addr part = codes "; without" ++ (missing_names part (codes " ") (codes " ") ++ taken_of addr)
+taken_text addr part = codes "; without" ++ (missing_names part (codes " ") (codes " ") ++ lacks_source_text addr)
 
 abbrev pub trusted_at : ℕ → PartRegisters → List ℕ
 trusted_at addr part = if has_all part then [] else taken_text addr part
@@ -59,8 +59,8 @@ trusted_below parts (suc addr) = trusted_below parts addr ++ trusted_at addr (pa
 
 -- `accepted: 3 claims, 41 transfers`, and what parts lack by accepted claims
 unfoldable pub counted_text : Known → List ℕ
-counted_text known = codes "accepted: " ++ (counted known.claims (codes "claim")
-    ++ (codes ", " ++ counted known.transfers (codes "transfer")))
+counted_text known = codes "accepted: " ++ (counted_noun known.claims (codes "claim")
+    ++ (codes ", " ++ counted_noun known.transfers (codes "transfer")))
 
 unfoldable pub accepted_text : Known → List ℕ
 accepted_text known = counted_text known ++ trusted_below known.without 128
@@ -70,28 +70,28 @@ abbrev pub word_text : Cell → ℕ → List ℕ
 word_text cell word = if is_voltage_cell cell then hex_word word else hex_byte (word % 256)
 
 -- the output, or `-` for the device, and a space
-abbrev pub place_text : Cell → List ℕ
-place_text (Out output register) = decimal output ++ codes " "
-place_text Protect = codes "- "
+abbrev pub cell_place_text : Cell → List ℕ
+cell_place_text (Out output register) = decimal output ++ codes " "
+cell_place_text Protect = codes "- "
 
 -- words, each after a space
 abbrev pub words_text : Cell → List ℕ → List ℕ
 words_text cell words = flat_map (λ word. codes " " ++ word_text cell word) words
 
-abbrev pub possible_text : Cell → Possible → List ℕ
-possible_text cell Any = codes " any"
-possible_text cell (Words words) = words_text cell words.items
+abbrev pub possible_words_text : Cell → Possible → List ℕ
+possible_words_text cell Any = codes " any"
+possible_words_text cell (Words words) = words_text cell words.items
 
 -- ` isn't known to hold 34CD`, `: possible 1000 34CD`
 unfoldable pub unknown_held : Cell → ℕ → List ℕ
 unknown_held cell word = codes " isn't known to hold " ++ word_text cell word
 
 unfoldable pub possible_left : Cell → Possible → List ℕ
-possible_left cell possible = codes ": possible" ++ possible_text cell possible
+possible_left cell possible = codes ": possible" ++ possible_words_text cell possible
 
 -- `0 VOUT_COMMAND isn't known to hold 34CD: possible 1000 34CD`
 unfoldable pub unknown_word : Cell → ℕ → Possible → List ℕ
-unknown_word cell word possible = place_text cell ++ (cell_name cell ++ (unknown_held cell word ++ possible_left cell possible))
+unknown_word cell word possible = cell_place_text cell ++ (cell_name cell ++ (unknown_held cell word ++ possible_left cell possible))
 
 -- `3300000 to 3301000 uV`
 unfoldable pub range_text : ℤ → ℤ → List ℕ
@@ -114,7 +114,7 @@ unfoldable pub on_line : ℕ → List ℕ
 on_line line = codes " answered on line " ++ decimal line
 
 unfoldable pub answered_on : Cell → ℕ → List ℕ
-answered_on cell line = place_text cell ++ (cell_name cell ++ on_line line)
+answered_on cell line = cell_place_text cell ++ (cell_name cell ++ on_line line)
 
 unfoldable pub belied_text : ℕ → Cell → ℕ → List ℕ
 belied_text addr cell line = says_lacks addr ++ (codes " " ++ (cell_name cell ++ (codes ": " ++ answered_on cell line)))
@@ -128,11 +128,11 @@ unfoldable pub lacks_text : ℕ → PartRegisters → List ℕ
 lacks_text addr part = says_lacks addr ++ (missing_names part (codes " ") (codes " ") ++ lacks_option addr part)
 
 -- why a host can't be, a packet is none, and a job isn't begun
-unfoldable pub no_host : List ℕ → List ℕ
-no_host words = codes "there is no such host: " ++ words
+unfoldable pub no_host_text : List ℕ → List ℕ
+no_host_text words = codes "there is no such host: " ++ words
 
-unfoldable pub no_packet : List ℕ → List ℕ
-no_packet words = codes "no host sends this packet: " ++ words
+unfoldable pub no_packet_text : List ℕ → List ℕ
+no_packet_text words = codes "no host sends this packet: " ++ words
 
 unfoldable pub no_job : List ℕ → List ℕ
 no_job words = codes "no host begins this job: " ++ words
@@ -141,9 +141,9 @@ no_job words = codes "no host begins this job: " ++ words
 abbrev pub fault_text : LogFault → List ℕ
 fault_text (Line fault) = fault_words (text_fault fault)
 fault_text NoHead = codes "no #log line stands before it"
-fault_text Address = no_host (codes "no part has this address")
-fault_text (Setup fault) = no_host (host_fault_words fault)
-fault_text (Frame fault) = no_packet (frame_fault_words fault)
+fault_text Address = no_host_text (codes "no part has this address")
+fault_text (Setup fault) = no_host_text (host_fault_words fault)
+fault_text (Frame fault) = no_packet_text (frame_fault_words fault)
 fault_text NoJob = codes "no job of a host sends this packet"
 fault_text (Refused fault) = no_job (host_fault_words fault)
 fault_text (Answered addr cell line) = belied_text addr cell line
@@ -163,6 +163,6 @@ verdict_words (Err refusal) = refusal_text refusal
 abbrev pub verdict_text : Result Known Refusal → List ℕ
 verdict_text log = verdict_words log ++ codes "\n"
 
-abbrev pub end_of : Result Known Refusal → LogEnd
-end_of (Ok known) = Accepted
-end_of (Err refusal) = EndsRefused
+abbrev pub log_end_of : Result Known Refusal → LogEnd
+log_end_of (Ok known) = Accepted
+log_end_of (Err refusal) = EndsRefused

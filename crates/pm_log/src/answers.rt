@@ -101,7 +101,7 @@ fn answered_by(addr: u8, request: Message, bytes: &[u8]) -> Option<Cell>
     requires address { IsAddress addr }
     requires read { is_read_message request ≡ true }
     requires fits { fits_layout request ≡ true }
-    ensures { result ≡ spec.answered_by None (answer_fault addr request bytes.now) request }
+    ensures { result ≡ spec.cell_well_answered None (answer_fault addr request bytes.now) request }
 {
     match read_answer(addr, &request, bytes) {
         Ok(_) => read_cell(request),

@@ -1,7 +1,7 @@
 //! What is known after lines of a log, or which line isn't accepted.
 
 ghost use Rattle.std.specs.Prelude.{◌≡◌, ◌+◌, IfErr, IfOk, OnOk, Err};
-ghost use Rattle.pm_log.specs.Holdings.{refusal_of};
+ghost use Rattle.pm_log.specs.Holdings.{refusal_of_line};
 ghost use Rattle.pm_log.specs.Logs.{line_said};
 
 use crate::fault::LogFault;
@@ -35,11 +35,11 @@ pub struct Checked {
 impl Model for Checked {
     ghost use Rattle.std.specs.Prelude.{◌≤◌};
     ghost use Rattle.pm_log.specs.Logs.{Checked as Lines};
-    ghost use Rattle.pm_log.specs.Holdings.{kept_in};
+    ghost use Rattle.pm_log.specs.Holdings.{kept_unless_refused};
 
     ghost Value = { Lines };
 
-    ghost view = { λ c. record { ended = c.ended; log = kept_in c.so_far c.refusal } };
+    ghost view = { λ c. record { ended = c.ended; log = kept_unless_refused c.so_far c.refusal } };
 
     ghost invariant = { λ c. (c.so_far.claims ≤ c.ended) × (c.so_far.transfers ≤ c.ended) };
 }
@@ -131,7 +131,7 @@ fn line_of(
 
 // The refusal of a line.
 fn refused(line: u64, taken: Result<(), LogFault>) -> Option<Refusal>
-    ensures { result ≡ refusal_of line taken }
+    ensures { result ≡ refusal_of_line line taken }
 {
     match taken {
         Ok(()) => None,

@@ -4,9 +4,9 @@ ghost use Rattle.std.specs.List.{fold};
 ghost use Rattle.std.specs.Io.KnownBytes.{IsAtEnd};
 ghost use Rattle.pm_limits.specs.declared.part_registers.PartRegisters.{PartRegisters};
 ghost use Rattle.pm_lines.specs.Engine.{over};
-ghost use Rattle.pm_log.specs.Texts.{Breaks, LogEnds, ended, finished, log_text, most_bytes, no_byte, with_byte};
-ghost use Rattle.pm_log.specs.TakenLogs.{Taken, TakesPiece, StopsBytes, StopsPiece};
-ghost use Rattle.pm_log.specs.Verdicts.{end_of as spec_end_of, verdict_text};
+ghost use Rattle.pm_log.specs.Texts.{Breaks, LogEnds, ended_text, last_line_ended, log_text, most_log_bytes, no_byte, with_byte};
+ghost use Rattle.pm_log.specs.TakenLogs.{Taken, TakesPiece, StopsLogBytes, StopsPiece};
+ghost use Rattle.pm_log.specs.Verdicts.{log_end_of as spec_end_of, verdict_text};
 
 use crate::lacks::Lacks;
 use crate::log_text::LogText;
@@ -109,7 +109,7 @@ fn take_piece<R: Read>(
     piece: &mut [u8; PIECE],
 ) -> Result<usize, TextFault>
     requires reader { IsFalse reader.old.failed }
-    requires room { log.old.taken ≤ most_bytes }
+    requires room { log.old.taken ≤ most_log_bytes }
     ensures taken { IfOk result (λ count. TakesPiece (R.remaining reader.old.inner) (R.remaining reader.new.inner)
         log.old log.new count) }
     ensures stops { IfErr result (λ fault. StopsPiece (R.remaining reader.old.inner) (R.remaining reader.new.inner)
@@ -124,10 +124,10 @@ fn take_piece<R: Read>(
 
 // Takes further bytes, if a log may have as many.
 fn take_bytes(alloc: Global, log: &mut LogText, bytes: &[u8]) -> Result<(), TextFault>
-    requires room { log.old.taken ≤ most_bytes }
+    requires room { log.old.taken ≤ most_log_bytes }
     ensures taken { OnOk result (log.new ≡ fold with_byte log.old bytes.now) }
-    ensures room { OnOk result (log.old.taken + length bytes.now ≤ most_bytes) }
-    ensures stops { IfErr result (StopsBytes log.old bytes.now) }
+    ensures room { OnOk result (log.old.taken + length bytes.now ≤ most_log_bytes) }
+    ensures stops { IfErr result (StopsLogBytes log.old bytes.now) }
 {
     if bytes.len() as u64 > MOST_BYTES - log.taken() {
         return Err(TextFault::TooLong);
@@ -145,10 +145,10 @@ fn empty_verdict() -> &'static str
 
 // Ends the log: its verdict.
 fn verdict(alloc: Global, log: &mut LogText) -> Result<String, TextFault>
-    requires { log.old.taken ≤ most_bytes }
-    ensures text { IfOk result (λ text. string_bytes text ≡ verdict_text (ended (finished log.old))) }
+    requires { log.old.taken ≤ most_log_bytes }
+    ensures text { IfOk result (λ text. string_bytes text ≡ verdict_text (ended_text (last_line_ended log.old))) }
     ensures memory { IfErr result (λ fault. fault ≡ TextFault.Memory) }
-    ensures end { OnOk result (log.new.checked.log ≡ ended (finished log.old)) }
+    ensures end { OnOk result (log.new.checked.log ≡ ended_text (last_line_ended log.old)) }
 {
     log.finish(alloc)?;
     let mut text = String::new(alloc);

@@ -9,7 +9,7 @@ use pm_table::{Cell, Code, cell_of};
 
 /// The job whose first frame has this message; `None` if no job begins with it. A job that a host holds open doesn't matter.
 pub fn job_named(message: Message) -> Option<Job>
-    ensures { result ≡ spec.job_named message }
+    ensures { result ≡ spec.job_of_message message }
 {
     match message {
         Message::SendByte { code } => sent_job(Code(code), None),
@@ -38,7 +38,7 @@ fn written_job(page: u8, code: Code, payload: Payload) -> Option<Job>
 
 // What a command begins that is sent, at an output or at the device.
 fn sent_job(code: Code, output: Option<u8>) -> Option<Job>
-    ensures { result ≡ spec.sending_of code.0 output }
+    ensures { result ≡ spec.sending_of_code code.0 output }
 {
     match (code, output) {
         (Code::CLEAR_FAULTS, Some(output)) => Some(Job::Send(Command::ClearFaults { output })),
@@ -50,7 +50,7 @@ fn sent_job(code: Code, output: Option<u8>) -> Option<Job>
 
 // What a read at an output begins.
 fn read_job(page: u8, code: Code) -> Option<Job>
-    ensures { result ≡ spec.read_at page code.0 }
+    ensures { result ≡ spec.job_of_read page code.0 }
 {
     if code == Code::VOUT_MODE {
         Some(Job::Learn(page))
@@ -61,7 +61,7 @@ fn read_job(page: u8, code: Code) -> Option<Job>
 
 // An order of the cell that the code writes.
 fn order_of(code: Code, output: u8, word: u16) -> Option<Job>
-    ensures { result ≡ spec.order_of code.0 output word }
+    ensures { result ≡ spec.order_of_code code.0 output word }
 {
     let cell = cell_of(code, output)?;
     Some(Job::Order(cell, word))

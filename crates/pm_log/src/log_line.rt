@@ -40,7 +40,7 @@ pub fn read_log_line(
     alloc: Global,
     line: Line<'_>,
 ) -> Result<Result<LogLine, ScenarioFault>, TextFault>
-    ensures said { IfOk result (λ found. found ≡ spec.said (line.entry.number, line.entry.text.now)) }
+    ensures said { IfOk result (λ found. found ≡ spec.said_by_line (line.entry.number, line.entry.text.now)) }
     ensures memory { IfErr result (λ fault. fault ≡ TextFault.Memory) }
 {
     if is_note(line.text) {
@@ -117,7 +117,7 @@ fn failed_line(
 
 // A head or a claim, whose every word is judged.
 fn marked_line(line: Line<'_>) -> Result<LogLine, ScenarioFault>
-    ensures { result ≡ line_as spec.marked (line.entry.number, line.entry.text.now) }
+    ensures { result ≡ line_as spec.line_by_mark (line.entry.number, line.entry.text.now) }
 {
     let mut fields = Fields::new(line);
     match marked(&mut fields) {
@@ -130,9 +130,9 @@ fn marked_line(line: Line<'_>) -> Result<LogLine, ScenarioFault>
 }
 
 // A head or a claim, by its first word.
-#[tactic(auto, unfolding(crate::specs::Lines::marked))]
+#[tactic(auto, unfolding(crate::specs::Lines::line_by_mark))]
 fn marked(fields: &mut Fields<'_>) -> Result<LogLine, ScenarioFault>
-    ensures { Reads result fields.new (spec.marked fields.old) }
+    ensures { Reads result fields.new (spec.line_by_mark fields.old) }
 {
     if fields.takes("#log") {
         head(fields)

@@ -36,7 +36,7 @@ impl LogText {
     ghost use Rattle.std.specs.Prelude.{◌+◌, ◌<◌, ◌≤◌, ◌^◌, [], length, IfErr, OnErr, OnOk};
     ghost use Rattle.std.specs.List.{fold};
     ghost use Rattle.pm_log.specs.Logs.{at_end, with_line};
-    ghost use Rattle.pm_log.specs.Texts.{ended, finished, no_byte, with_byte};
+    ghost use Rattle.pm_log.specs.Texts.{ended_text, last_line_ended, no_byte, with_byte};
 
     /// No byte, for a receiver who lets parts lack these registers. Takes no memory.
     pub fn new(alloc: Global, allowed: &Lacks) -> LogText
@@ -97,7 +97,7 @@ impl LogText {
     /// Ends the text: a last line without a line feed ends here.
     pub fn finish(&mut self, alloc: Global) -> Result<(), TextFault>
         requires { self.old.taken + 1 < 2 ^ 64 }
-        ensures taken { OnOk result (self.new.checked.log ≡ ended (finished self.old)) }
+        ensures taken { OnOk result (self.new.checked.log ≡ ended_text (last_line_ended self.old)) }
         ensures memory { IfErr result (λ fault. fault ≡ TextFault.Memory) }
     {
         self.end_line(alloc)?;
@@ -109,7 +109,7 @@ impl LogText {
     #[tactic(auto, unfolding(crate::specs::Logs::with_line))]
     fn end_line(&mut self, alloc: Global) -> Result<(), TextFault>
         requires { self.old.taken + 1 < 2 ^ 64 }
-        ensures ended { OnOk result (self.new.checked ≡ finished self.old) }
+        ensures ended { OnOk result (self.new.checked ≡ last_line_ended self.old) }
         ensures line { OnOk result (self.new.line ≡ []) }
         ensures taken { OnOk result (self.new.taken ≡ self.old.taken) }
         ensures memory { IfErr result (λ fault. fault ≡ TextFault.Memory) }

@@ -2,9 +2,9 @@
 
 ghost use Rattle.std.specs.Prelude.{◌≡◌, ◌<◌, Some, Ok, Err, MatchResult};
 ghost use Rattle.pm_host.specs.Told.{entry_told};
-ghost use Rattle.pm_log.specs.Answered.{answer_in as spec_answer_in};
+ghost use Rattle.pm_log.specs.Answered.{cell_of_answer as spec_answer_in};
 ghost use Rattle.pm_table.specs.Address.{IsAddress};
-ghost use Rattle.pm_log.specs.Logs.{left_possible, unknown as spec_unknown};
+ghost use Rattle.pm_log.specs.Logs.{left_possible, unknown_claim as spec_unknown};
 
 use crate::answers::{Answers, answered_cell};
 use crate::fault::LogFault;
@@ -45,11 +45,11 @@ impl Model for OpenLog {
 
 impl OpenLog {
     ghost use Rattle.std.specs.Prelude.{◌+◌, ◌<◌, ◌≤◌, ◌^◌, IfOk, is_some};
-    ghost use Rattle.pm_log.specs.Logs.{claimed, distrusted, headed, judged, nothing, told};
+    ghost use Rattle.pm_log.specs.Logs.{claimed, distrusted, headed, line_accepted, known_before_lines, transfer_told};
 
     /// No line, for a receiver who lets parts lack these registers.
     pub(crate) fn new(allowed: &Lacks) -> OpenLog
-        ensures { result ≡ nothing allowed.now.parts }
+        ensures { result ≡ known_before_lines allowed.now.parts }
     {
         OpenLog {
             host: None,
@@ -93,8 +93,8 @@ impl OpenLog {
     pub(crate) fn take(&mut self, number: u64, line: &LogLine) -> Result<(), LogFault>
         requires claims { self.old.claims + 1 < 2 ^ 64 }
         requires transfers { self.old.transfers + 1 < 2 ^ 64 }
-        ensures judged { MatchResult result (λ _. judged number self.old line.now ≡ Ok self.new)
-            (λ fault. judged number self.old line.now ≡ Err fault) }
+        ensures judged { MatchResult result (λ _. line_accepted number self.old line.now ≡ Ok self.new)
+            (λ fault. line_accepted number self.old line.now ≡ Err fault) }
         ensures claims { self.new.claims ≤ self.old.claims + 1 }
         ensures transfers { self.new.transfers ≤ self.old.transfers + 1 }
     {
@@ -189,8 +189,8 @@ impl OpenLog {
     fn tell(&mut self, number: u64, frame: &[u8], came: Told<'_>) -> Result<(), LogFault>
         requires { self.old.transfers + 1 < 2 ^ 64 }
         ensures judged { MatchResult result
-            (λ _. told number self.old self.old.host frame.now (entry_told came.entry) ≡ Ok self.new)
-            (λ fault. told number self.old self.old.host frame.now (entry_told came.entry) ≡ Err fault) }
+            (λ _. transfer_told number self.old self.old.host frame.now (entry_told came.entry) ≡ Ok self.new)
+            (λ fault. transfer_told number self.old self.old.host frame.now (entry_told came.entry) ≡ Err fault) }
         ensures claims { self.new.claims ≡ self.old.claims }
         ensures transfers { self.new.transfers ≤ self.old.transfers + 1 }
     {

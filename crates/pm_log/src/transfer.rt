@@ -2,9 +2,9 @@
 ghost use Rattle.std.specs.Prelude.{◌≡◌, Ok, Err, true, false, MatchResult};
 ghost use Rattle.pm_table.specs.Address.{IsAddress};
 ghost use Rattle.pm_host.specs.Told.{entry_told};
-ghost use Rattle.pm_host.specs.Summary.{next};
-ghost use Rattle.pm_log.specs.Jobs.{job_in, write_job as spec_write_job, request_job as spec_request_job, is_beside as spec_is_beside};
-ghost use Rattle.pm_log.specs.Replays.{begun_by, fits, free as spec_free, is_answer, transferred};
+ghost use Rattle.pm_host.specs.Summary.{host_next};
+ghost use Rattle.pm_log.specs.Jobs.{job_in_frame, write_job as spec_write_job, request_job as spec_request_job, asks_unknown_code as spec_is_beside};
+ghost use Rattle.pm_log.specs.Replays.{begun_with_frame, frame_fits, free as spec_free, is_answer, transferred};
 ghost use Rattle.pm_frame.specs.Fault.{write_fault, request_fault};
 ghost use Rattle.pm_frame.specs.View.{message_in};
 ghost use Rattle.pm_host.specs.Jobs.{begin_fault};
@@ -39,8 +39,8 @@ pub(crate) fn take_transfer(host: &mut Host, frame: &[u8], told: Told<'_>) -> Re
 
 // Whether the frame is the one that the host sends, which then hears what came of it.
 fn takes(host: &mut Host, frame: &[u8], told: Told<'_>) -> bool
-    ensures fits { result ≡ fits host.old frame.now (entry_told told.entry) }
-    ensures told { result ≡ true → host.new ≡ next host.old (entry_told told.entry) }
+    ensures fits { result ≡ frame_fits host.old frame.now (entry_told told.entry) }
+    ensures told { result ≡ true → host.new ≡ host_next host.old (entry_told told.entry) }
     ensures kept { result ≡ false → host.new ≡ host.old }
 {
     replay_act(host, &Act::Sent(frame, told)).is_ok()
@@ -49,9 +49,9 @@ fn takes(host: &mut Host, frame: &[u8], told: Told<'_>) -> bool
 // A job begins with this frame.
 fn begin(host: &mut Host, job: Job, frame: &[u8], told: Told<'_>) -> Result<bool, LogFault>
     ensures { MatchResult result
-        (λ is_told. begun_by (begin_fault (spec_free host.old) job) (spec_free host.old) job frame.now (entry_told told.entry)
+        (λ is_told. begun_with_frame (begin_fault (spec_free host.old) job) (spec_free host.old) job frame.now (entry_told told.entry)
         ≡ Ok (host.new, is_told))
-        (λ fault. begun_by (begin_fault (spec_free host.old) job) (spec_free host.old) job frame.now (entry_told told.entry)
+        (λ fault. begun_with_frame (begin_fault (spec_free host.old) job) (spec_free host.old) job frame.now (entry_told told.entry)
         ≡ Err fault) }
 {
     free(host);
@@ -76,7 +76,7 @@ fn free(host: &mut Host)
 
 // The job that a frame names; `None` of a read that is none of a job's.
 fn job_of(host: &Host, frame: &[u8], told: Told<'_>) -> Result<Option<Job>, LogFault>
-    ensures { result ≡ job_in host.now.setup.addr frame.now (is_answer (entry_told told.entry)) }
+    ensures { result ≡ job_in_frame host.now.setup.addr frame.now (is_answer (entry_told told.entry)) }
 {
     // law: the address of a host is one that a part may have
     let _state = host.state();

@@ -82,9 +82,9 @@ fn push_taken(text: &mut String, addr: u8, part: PartRegisters) -> Result<(), Al
 }
 
 // ` of 58 by --lacks`
-#[tactic(auto, using(pm_lines::specs::Lemmas::Joins::joins), unfolding(crate::specs::Verdicts::taken_of))]
+#[tactic(auto, using(pm_lines::specs::Lemmas::Joins::joins), unfolding(crate::specs::Verdicts::lacks_source_text))]
 fn push_taken_of(text: &mut String, addr: u8) -> Result<(), AllocError>
-    ensures { OnOk result (string_bytes text.new ≡ string_bytes text.old ++ spec.taken_of addr) }
+    ensures { OnOk result (string_bytes text.new ≡ string_bytes text.old ++ spec.lacks_source_text addr) }
 {
     text.push_str(" of ")?;
     push_hex(text, addr)?;
@@ -129,9 +129,9 @@ fn push_missing_name<'a>(
 }
 
 // `1 claim`, `3 claims`
-#[tactic(auto, using(pm_lines::specs::Lemmas::Joins::joins), unfolding(crate::specs::Verdicts::counted))]
+#[tactic(auto, using(pm_lines::specs::Lemmas::Joins::joins), unfolding(crate::specs::Verdicts::counted_noun))]
 fn push_counted(text: &mut String, count: u64, what: &str) -> Result<(), AllocError>
-    ensures { OnOk result (string_bytes text.new ≡ string_bytes text.old ++ spec.counted count what.now) }
+    ensures { OnOk result (string_bytes text.new ≡ string_bytes text.old ++ spec.counted_noun count what.now) }
 {
     push_decimal(text, count)?;
     text.push_str(" ")?;
@@ -179,17 +179,17 @@ fn push_fault(text: &mut String, fault: &LogFault) -> Result<(), AllocError>
     }
 }
 
-#[tactic(auto, using(pm_lines::specs::Lemmas::Joins::joins), unfolding(crate::specs::Verdicts::no_host))]
+#[tactic(auto, using(pm_lines::specs::Lemmas::Joins::joins), unfolding(crate::specs::Verdicts::no_host_text))]
 fn push_host(text: &mut String, words: &str) -> Result<(), AllocError>
-    ensures { OnOk result (string_bytes text.new ≡ string_bytes text.old ++ spec.no_host words.now) }
+    ensures { OnOk result (string_bytes text.new ≡ string_bytes text.old ++ spec.no_host_text words.now) }
 {
     text.push_str("there is no such host: ")?;
     text.push_str(words)
 }
 
-#[tactic(auto, using(pm_lines::specs::Lemmas::Joins::joins), unfolding(crate::specs::Verdicts::no_packet))]
+#[tactic(auto, using(pm_lines::specs::Lemmas::Joins::joins), unfolding(crate::specs::Verdicts::no_packet_text))]
 fn push_frame(text: &mut String, words: &str) -> Result<(), AllocError>
-    ensures { OnOk result (string_bytes text.new ≡ string_bytes text.old ++ spec.no_packet words.now) }
+    ensures { OnOk result (string_bytes text.new ≡ string_bytes text.old ++ spec.no_packet_text words.now) }
 {
     text.push_str("no host sends this packet: ")?;
     text.push_str(words)
@@ -302,7 +302,7 @@ fn push_left(text: &mut String, cell: Cell, possible: &Possible) -> Result<(), A
 // The words that a cell may hold, each after a space.
 #[tactic(auto, using(pm_lines::specs::Lemmas::Joins::joins))]
 fn push_possible(text: &mut String, cell: Cell, possible: &Possible) -> Result<(), AllocError>
-    ensures { OnOk result (string_bytes text.new ≡ string_bytes text.old ++ spec.possible_text cell possible.now) }
+    ensures { OnOk result (string_bytes text.new ≡ string_bytes text.old ++ spec.possible_words_text cell possible.now) }
 {
     match possible {
         Possible::Any => text.push_str(" any"),
@@ -313,7 +313,7 @@ fn push_possible(text: &mut String, cell: Cell, possible: &Possible) -> Result<(
 // The output and a space, or `- ` for the device.
 #[tactic(auto, using(pm_lines::specs::Lemmas::Joins::joins))]
 fn push_place(text: &mut String, cell: Cell) -> Result<(), AllocError>
-    ensures { OnOk result (string_bytes text.new ≡ string_bytes text.old ++ spec.place_text cell) }
+    ensures { OnOk result (string_bytes text.new ≡ string_bytes text.old ++ spec.cell_place_text cell) }
 {
     match cell {
         Cell::Out(output, _) => {

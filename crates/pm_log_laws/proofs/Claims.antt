@@ -18,7 +18,7 @@ use Rattle.pm_model.specs.Commanded.{limited, selected_register, Scale, commande
 use Rattle.pm_model.specs.Settings.{word_at, Words as Settings}
 use Rattle.pm_device.specs.declared.config.Config.{Config}
 use Rattle.pm_device.specs.Held.{shape_for, value_for, Held}
-use Rattle.pm_host.specs.{Now.now as host_now, Refusals.IsSetup, declared.command.Command.TheVariants.RestoreUserAll}
+use Rattle.pm_host.specs.{Now.host_now, Refusals.IsSetup, declared.command.Command.TheVariants.RestoreUserAll}
 use Rattle.pm_host.specs.{declared.knowledge.Possible.Possible}
 use Rattle.pm_host.specs.Laws.{PossibleWordsAreFollowed, TranscriptsAreFollowed}
 use Rattle.pm_host.specs.Marks.{Mark, Put, Good, Restored, Restart, goods, marks, put_by, puts}
@@ -29,7 +29,8 @@ use Rattle.pm_host.specs.Transcript.{is_write_turn}
 use Rattle.pm_host.specs.declared.knowledge.Possible.TheVariants.{Any, Words}
 use Rattle.pm_limits.specs.{declared.band.Band.Band, declared.ends.Side.Side, declared.fault.LimitFault.LimitFault}
 use Rattle.pm_limits.specs.{declared.output_limits.OutputLimits.TheVariants.Between, declared.part_registers.PartRegisters.PartRegisters}
-use Rattle.pm_limits.specs.Band.{HasDens, InBand, Known, band_at, band_with, band_within, end_with, is_yes, known_of, may_select_avsbus}
+use Rattle.pm_limits.specs.Band.{HasDens, InBand, Known, band_at, band_with, band_within, end_with, is_yes, known_of_output}
+use Rattle.pm_limits.specs.Band.{may_select_avsbus}
 use Rattle.pm_limits.specs.Band.{operation_end, operations, within_of, word_end, side_end}
 use Rattle.pm_limits.specs.Bounds.{Bounds, IsWithin, bounds_fault}
 use Rattle.pm_limits.specs.declared.ends.Side.TheVariants.{Lowest, Highest}
@@ -48,7 +49,7 @@ use Rattle.pm_world.specs.Life.{life, now, state_of}
 use Rattle.pm_world.specs.LimitLaws.{BandsAreHeld, BandsAreExact}
 use Rattle.pm_world.specs.Lived.{EventsAreLived, IsLived}
 use Rattle.pm_world.specs.Moves.{MovesBy, SettingsMoveByTheOpenJob, came_back, ordered, restored, words_at}
-use Rattle.pm_world.specs.Possible.{has_read, restarts_host, restarted_since_host}
+use Rattle.pm_world.specs.Possible.{host_has_read, restarts_host, restarted_since_host}
 use Rattle.pm_world.specs.Uncertainty.{AreOpen, ArePossible, Choice, due_before, may_hold, since_restart, witness_events, witness_start}
 use Rattle.pm_part_laws.specs.Alike.{LivesAlike, SameSettingsLiveAlike}
 use Rattle.pm_part_laws.specs.Happenings.{Happening, Happens, Hears, MayAllHappen, beside}
@@ -57,7 +58,7 @@ use Rattle.pm_part_laws.specs.Lemmas.Narrow.{restarts-like, since, since-at, sta
 use Rattle.pm_log_laws.specs.Checked as world
 use Rattle.pm_log_laws.specs.Checked.{HeldWhenRead, TellsLog, LeavesOther, CommandsOther, LeavesCell, LeavesCommand, may_write}
 use Rattle.pm_log_laws.specs.Checked.{AcceptedClaimsAreHeld, AcceptedClaimsStay, AcceptedVoltagesStay}
-use Rattle.pm_log_laws.specs.CheckedBeside.{AcceptedClaimsHoldBeside, LeavesCell as CheckedBesideLeavesCell}
+use Rattle.pm_log_laws.specs.CheckedBeside.{AcceptedClaimsHoldBeside, LeavesCellBeside as CheckedBesideLeavesCell}
 
 -- What was possible stays so until the next good answer for the cell, and so what a claim says was held at the last one.
 
@@ -164,15 +165,15 @@ record LastRead (config : Config) (passes : ℕ) (cell : Cell) (events : List Ev
       is_possible word (possible_in config passes cell events) ≡ true
 
 last-read : PossibleWordsAreFollowed → (config : Config) (passes : ℕ) (cell : Cell) (events : List Event) →
-    has_read config passes cell events ≡ true → LastRead config passes cell events
-unfolding has_read
+    host_has_read config passes cell events ≡ true → LastRead config passes cell events
+unfolding host_has_read
 last-read law config passes cell [] is = cc
 last-read law config passes cell (event ∷ before) is =
     go (λ h. last-read law config passes cell before h) (restarts_host event) (reads_cell config passes cell before event) refl refl is
   where
-    go : (has_read config passes cell before ≡ true → LastRead config passes cell before) → (restart read : Bool) →
+    go : (host_has_read config passes cell before ≡ true → LastRead config passes cell before) → (restart read : Bool) →
         restarts_host event ≡ restart → reads_cell config passes cell before event ≡ read →
-        cond restart false (read || has_read config passes cell before) ≡ true → LastRead config passes cell (event ∷ before)
+        cond restart false (read || host_has_read config passes cell before) ≡ true → LastRead config passes cell (event ∷ before)
     go earlier true read e r h = cc
     go earlier false true e r h = record {
       later = [];
@@ -333,12 +334,12 @@ band-ends : (part : PartRegisters) (s : Summary) (output : ℕ) (band : Band) �
     ((shape : Shape) → format_at s output ≡ Some shape → HasDens shape) → band_at part s output ≡ Some band → HasEnds band
 band-ends part s output band dens is = go (may_select_avsbus (possible_at s (Out output Operation))) (format_at s output) refl is where
   go : (avs : Bool) (format : Option Shape) → format_at s output ≡ format →
-      cond avs None (option_map (λ shape. band_with shape (known_of part shape s output) (operations (possible_at s (Out output Operation)))) format)
+      cond avs None (option_map (λ shape. band_with shape (known_of_output part shape s output) (operations (possible_at s (Out output Operation)))) format)
       ≡ Some band → HasEnds band
   go true format e h = cc
   go false None e h = cc
   go false (Some shape) e h =
-      let known = known_of part shape s output in
+      let known = known_of_output part shape s output in
       let bytes = operations (possible_at s (Out output Operation)) in
       subst (λ (b : Band). HasEnds b) (same_Some (band_with shape known bytes) band h) (record {
         least = end-den Lowest shape known bytes (dens shape e);
@@ -514,16 +515,16 @@ is-other output register word held (Words words) alone listed apart =
 
 -- if the converter didn't restart since the host did, it didn't since a good answer
 no-restart : (config : Config) (passes : ℕ) (cell : Cell) (events : List Event) → restarted_since_host events ≡ false →
-    has_read config passes cell events ≡ true → restarted_since config passes cell events ≡ false
-unfolding restarted_since_host has_read restarted_since
+    host_has_read config passes cell events ≡ true → restarted_since config passes cell events ≡ false
+unfolding restarted_since_host host_has_read restarted_since
 no-restart config passes cell [] steady read = cc
 no-restart config passes cell (event ∷ before) steady read =
     go (λ s h. no-restart config passes cell before s h) (restarts_host event) (restarts_converter event)
     (reads_cell config passes cell before event) steady read
   where
-    go : (restarted_since_host before ≡ false → has_read config passes cell before ≡ true → restarted_since config passes cell before ≡ false) →
+    go : (restarted_since_host before ≡ false → host_has_read config passes cell before ≡ true → restarted_since config passes cell before ≡ false) →
         (host device reads : Bool) → cond host false (device || restarted_since_host before) ≡ false →
-        cond host false (reads || has_read config passes cell before) ≡ true →
+        cond host false (reads || host_has_read config passes cell before) ≡ true →
         cond reads false (device || restarted_since config passes cell before) ≡ false
     go later true device reads s h = cc
     go later false device true s h = refl

@@ -17,34 +17,34 @@ use Rattle.pm_world.specs.Bands.{AreShort, HoldsMissing}
 use Rattle.pm_world.specs.Confirmed.{restarts_converter}
 use Rattle.pm_world.specs.Setup.{setup_of}
 use Rattle.pm_world.specs.Uncertainty.{since_restart}
-use Rattle.pm_part_laws.specs.Answers.{restarted_since}
-use Rattle.pm_part_laws.specs.Happenings.{Happening, Happens, Hears, IsLifeBeside, beside, told}
-use Rattle.pm_part_laws.specs.Limits.{BandStands}
-use Rattle.pm_part_laws.specs.Moves.{open_pending}
-use Rattle.pm_part_laws.specs.OwnWords.{commands}
+use Rattle.pm_part_laws.specs.Answers.{restarted_since_beside}
+use Rattle.pm_part_laws.specs.Happenings.{Happening, Happens, Hears, IsLifeBeside, beside, entries_beside}
+use Rattle.pm_part_laws.specs.Limits.{BandStandsBeside}
+use Rattle.pm_part_laws.specs.Moves.{open_pending_beside}
+use Rattle.pm_part_laws.specs.OwnWords.{commands_beside}
 use Rattle.pm_log_laws.specs.Checked.{may_write}
 
 -- The host beside a part tells a log: since it last started, it was asked for and told just what the log has since then. What anybody else
 -- asked the part isn't in the log.
-abbrev pub TellsLog : Held → ℕ → List Happening → List Act → Type 0
-TellsLog held passes happened log =
-    since_restart (told held passes happened) ≡ since_restart (transcript (setup_of held.config passes) log)
+abbrev pub TellsLogBeside : Held → ℕ → List Happening → List Act → Type 0
+TellsLogBeside held passes happened log =
+    since_restart (entries_beside held passes happened) ≡ since_restart (transcript (setup_of held.config passes) log)
 
 -- at none of the later happenings the part restarts or a job is open that may write the cell
-abbrev pub LeavesCell : Held → ℕ → Cell → List Happening → List Happening → Type 0
-LeavesCell held passes cell [] before = Unit {0}
-LeavesCell held passes cell (Happens event ∷ later) before = (restarts_converter event ≡ false)
-    × (may_write cell (open_pending held passes (later ++ before)) ≡ false)
-    × LeavesCell held passes cell later before
-LeavesCell held passes cell (Hears bytes ending ∷ later) before = LeavesCell held passes cell later before
+abbrev pub LeavesCellBeside : Held → ℕ → Cell → List Happening → List Happening → Type 0
+LeavesCellBeside held passes cell [] before = Unit {0}
+LeavesCellBeside held passes cell (Happens event ∷ later) before = (restarts_converter event ≡ false)
+    × (may_write cell (open_pending_beside held passes (later ++ before)) ≡ false)
+    × LeavesCellBeside held passes cell later before
+LeavesCellBeside held passes cell (Hears bytes ending ∷ later) before = LeavesCellBeside held passes cell later before
 
 -- none of the four words by which an output commands may be written later
 pub record LeavesCommand (held : Held) (passes : ℕ) (output : ℕ) (later before : List Happening) : Type 0 where
-  pub operation : LeavesCell held passes (Out output Operation) later before
-  pub selected : LeavesCell held passes
+  pub operation : LeavesCellBeside held passes (Out output Operation) later before
+  pub selected : LeavesCellBeside held passes
       (Out output (selected_register (word_at (beside held passes before).device.words (Out output Operation)))) later before
-  pub most : LeavesCell held passes (Out output VoutMax) later before
-  pub least : LeavesCell held passes (Out output VoutMin) later before
+  pub most : LeavesCellBeside held passes (Out output VoutMax) later before
+  pub least : LeavesCellBeside held passes (Out output VoutMin) later before
 
 -- Each claim of an accepted log, of each host beside a part that tells it. The part holds the claimed word, unless it restarted since the
 -- host's last good answer for it (`held`), and what the output commands lies between the claimed microvolts, unless the part restarted since
@@ -52,28 +52,28 @@ pub record LeavesCommand (held : Held) (passes : ℕ) (output : ℕ) (later befo
 -- claim speaks of (`stays`, `voltage_stays`). Of a part that is said to lack VOUT_MIN or VOUT_MAX no such register cuts the output.
 pub record AcceptedClaimsHoldBeside : Type 0 where
   pub holds : (held : Held) (passes : ℕ) (happened : List Happening) (log : List Act) (claims : List Claim) (at : ℕ) (cell : Cell) (word : ℕ) →
-      IsLifeBeside held passes happened → TellsLog held passes happened log →
+      IsLifeBeside held passes happened → TellsLogBeside held passes happened log →
       Accepts (setup_of held.config passes) log claims → slice_get claims at ≡ Some (Holds cell word) →
-      restarted_since held passes cell happened ≡ false →
+      restarted_since_beside held passes cell happened ≡ false →
       word_at (beside held passes happened).device.words cell ≡ word
   pub voltage : (held : Held) (passes : ℕ) (happened : List Happening) (log : List Act) (claims : List Claim) (at : ℕ) (output : ℕ)
       (part : PartRegisters) (least most : ℤ) →
-      IsLifeBeside held passes happened → TellsLog held passes happened log →
+      IsLifeBeside held passes happened → TellsLogBeside held passes happened log →
       Accepts (setup_of held.config passes) log claims → slice_get claims at ≡ Some (Commands output part least most) →
-      AreShort (beside held passes happened).device.words output → BandStands held passes happened output →
+      AreShort (beside held passes happened).device.words output → BandStandsBeside held passes happened output →
       HoldsMissing part held.config (beside held passes happened).device.words output →
-      IsWithin (record { least = least; most = most }) (commands held passes happened output)
+      IsWithin (record { least = least; most = most }) (commands_beside held passes happened output)
   pub stays : (held : Held) (passes : ℕ) (later before : List Happening) (log : List Act) (claims : List Claim) (at : ℕ)
       (cell : Cell) (word : ℕ) →
-      IsLifeBeside held passes (later ++ before) → TellsLog held passes before log →
+      IsLifeBeside held passes (later ++ before) → TellsLogBeside held passes before log →
       Accepts (setup_of held.config passes) log claims → slice_get claims at ≡ Some (Holds cell word) →
-      restarted_since held passes cell before ≡ false → LeavesCell held passes cell later before →
+      restarted_since_beside held passes cell before ≡ false → LeavesCellBeside held passes cell later before →
       word_at (beside held passes (later ++ before)).device.words cell ≡ word
   pub voltage_stays : (held : Held) (passes : ℕ) (later before : List Happening) (log : List Act) (claims : List Claim) (at : ℕ)
       (output : ℕ) (part : PartRegisters) (least most : ℤ) →
-      IsLifeBeside held passes (later ++ before) → TellsLog held passes before log →
+      IsLifeBeside held passes (later ++ before) → TellsLogBeside held passes before log →
       Accepts (setup_of held.config passes) log claims → slice_get claims at ≡ Some (Commands output part least most) →
-      AreShort (beside held passes before).device.words output → BandStands held passes before output →
+      AreShort (beside held passes before).device.words output → BandStandsBeside held passes before output →
       HoldsMissing part held.config (beside held passes before).device.words output →
       LeavesCommand held passes output later before →
-      IsWithin (record { least = least; most = most }) (commands held passes (later ++ before) output)
+      IsWithin (record { least = least; most = most }) (commands_beside held passes (later ++ before) output)

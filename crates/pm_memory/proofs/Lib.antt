@@ -1,6 +1,4 @@
-pub mod Sequences
-mod Courses
-mod Frames
+pub mod Kept
+mod Calls
 mod Named
 mod Ceils
-mod SequenceCalls

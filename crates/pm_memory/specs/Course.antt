@@ -39,7 +39,7 @@ use Rattle.pm_memory.specs.Wanted.{wanted_meant}
 use Rattle.pm_memory.specs.declared.course.CourseJobImage.{CourseJobImage}
 use Rattle.pm_memory.specs.declared.host_step.HostStep.{HostStep}
 use Rattle.pm_memory.specs.Host.{fault_in, host_step, refused_step}
-use Rattle.pm_memory.specs.Numbers.{accepted, ended, no_course, no_host, other_frame}
+use Rattle.pm_memory.specs.Numbers.{accepted, course_ended, no_course, no_host, other_frame}
 
 -- a course is made: H4 for an output that no device has, then H5 for a code that is no voltage
 abbrev pub begun_number : ℕ → ℕ
@@ -95,19 +95,19 @@ guard_at i stage = record { host = held stage i.host.state; limits = limits_kept
 
 -- Why the memories of a host and a course are refused: one holds no host, the other no course, or the course is of an output that the
 -- host doesn't have (H4). Nothing changes then.
-abbrev pub output_fault : Guarded → FrameCourse → Option ℕ
-output_fault g c = if nat_lt c.course.survey.output g.host.setup.outputs then None else Some (host_fault_number UnknownOutput)
+abbrev pub course_output_fault : Guarded → FrameCourse → Option ℕ
+course_output_fault g c = if nat_lt c.course.survey.output g.host.setup.outputs then None else Some (host_fault_number UnknownOutput)
 
 abbrev pub memory_fault : Option Guarded → Option FrameCourse → Option ℕ
 memory_fault None course = Some no_host
 memory_fault (Some g) None = Some no_course
-memory_fault (Some g) (Some c) = output_fault g c
+memory_fault (Some g) (Some c) = course_output_fault g c
 
 -- otherwise they mean a host with its limits and a course of one of its outputs
 pub record AreBoth (host : GuardImage) (course : CourseImage) (g : Guarded) (c : FrameCourse) : Type 0 where
   pub guard : guard_of host ≡ Some g
   pub held : course_in course ≡ Some c
-  pub there : output_fault g c ≡ None
+  pub there : course_output_fault g c ≡ None
 
 -- what the memory of a host means after a call; it stays a function of what it means
 pub record IsAfter (old new : GuardImage) (g : Guarded) : Type 0 where
@@ -117,7 +117,7 @@ pub record IsAfter (old new : GuardImage) (g : Guarded) : Type 0 where
 -- what a course would begin now
 abbrev pub next_number : CourseNext → ℕ
 next_number (Job job) = accepted
-next_number (Ended over) = ended
+next_number (Ended over) = course_ended
 
 abbrev pub next_image : CourseNext → CourseJobImage
 next_image (Job job) = job_image (Some job)
@@ -162,10 +162,10 @@ pub record IsPut (g : Guarded) (at : Option Stage) (i : SendingImage) : Type 0 w
 
 -- what is answered of a frame, or of none
 abbrev pub sent_number : Option Sending → ℕ
-sent_number sent = if is_some sent then accepted else ended
+sent_number sent = if is_some sent then accepted else course_ended
 
 abbrev pub stage_number : Option Stage → ℕ
-stage_number at = if is_some at then accepted else ended
+stage_number at = if is_some at then accepted else course_ended
 
 -- Memory is refused; or a course hands out its next frame, by what the memories mean.
 pub data HandsOutIn (old : GuardImage) (was : CourseImage) : ℕ → GuardImage → CourseImage → SendingImage → Type 0 where

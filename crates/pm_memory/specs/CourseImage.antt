@@ -113,14 +113,14 @@ voltages_held i = record {
 }
 
 -- the job that a course asked for: a learn of its output, a check or an order, by a number, a command code and a word
-abbrev pub job_in : ℕ → ℕ → ℕ → ℕ → Option Job
-job_in kind code word output =
+abbrev pub job_in_numbers : ℕ → ℕ → ℕ → ℕ → Option Job
+job_in_numbers kind code word output =
     if kind == 1 then Some (Learn output)
     else (if kind == 2 then option_map (λ cell. Check cell) (cell_at code output)
     else (if kind == 3 then option_map (λ cell. Order cell word) (cell_at code output) else None))
 
 abbrev pub job_held : CourseImage → Option Job
-job_held i = job_in i.asked i.code i.word i.output
+job_held i = job_in_numbers i.asked i.code i.word i.output
 
 abbrev pub job_kind : Option Job → ℕ
 job_kind (Some (Learn output)) = 1
@@ -151,8 +151,8 @@ abbrev pub plan_held : CourseImage → Option Wanted
 plan_held i = if i.planned == 1 then Some (wanted_meant i.wanted) else None
 
 -- how it ended, and the order that differed a second time, which is an end
-abbrev pub end_in : CourseImage → Option CourseEnd
-end_in i = end_held (record {
+abbrev pub end_in_image : CourseImage → Option CourseEnd
+end_in_image i = end_held (record {
   kind = i.end_kind;
   number = i.end_number;
   code = i.end_code;
@@ -193,10 +193,10 @@ is_course i = i.mark == course_mark && i.version == course_version && nat_lt i.o
 
 abbrev pub course_held : CourseImage → FrameCourse
 course_held i = record {
-  course = way_held i (end_in i);
+  course = way_held i (end_in_image i);
   voltages = voltages_held i;
   fault = fault_held i.fault;
-  end = end_in i;
+  end = end_in_image i;
 }
 
 abbrev pub course_in : CourseImage → Option FrameCourse
@@ -237,7 +237,7 @@ course_image c = let over = end_numbers c.end in record {
 pub record IsKept (c : FrameCourse) : Type 0 where
   pub output : c.course.survey.output < 8
   pub asked : let job = c.course.survey.asked in
-      job_in (job_kind job) (job_code job) (job_word job) c.course.survey.output ≡ job
+      job_in_numbers (job_kind job) (job_code job) (job_word job) c.course.survey.output ≡ job
   pub twice : twice_held c.end ≡ c.course.twice
   pub differed : c.course.differed.protect ≡ false
   pub over : end_held (end_numbers c.end) ≡ c.end

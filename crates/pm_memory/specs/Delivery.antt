@@ -34,8 +34,8 @@ asked_number host i = if not (is_some (host_of host.host)) then no_host
     else (if nat_lt i.delivery.output host.host.state.outputs then accepted else host_fault_number UnknownOutput))
 
 -- what a host holds beside its open job
-abbrev pub idle : GuardImage → Summary
-idle host = held None host.host.state
+abbrev pub idle_host : GuardImage → Summary
+idle_host host = held None host.host.state
 
 -- the register that a verdict is said by, and what it held
 abbrev pub said_by : Verdict → Option Question
@@ -54,22 +54,22 @@ said_by verdict.WentOff = None
 said_by verdict.StillOn = Some StatusWord
 said_by verdict.DeliversByVoltage = None
 
-abbrev pub word_of : Delivery → Option Question → ℕ
-word_of d register = option_map_or (λ r. (heard_of d r).word) register 0
+abbrev pub heard_word_of : Delivery → Option Question → ℕ
+heard_word_of d register = option_map_or (λ r. (heard_of d r).word) register 0
 
 -- READ_VOUT is told where it gave a good answer, in a format that is known, and isn't beyond 10^15 microvolts
-abbrev pub is_near : Option Shape → ℕ → Bool
-is_near shape word = option_map_or (λ s. floor_number (shape_value s word) == accepted) shape false
+abbrev pub is_floor_told : Option Shape → ℕ → Bool
+is_floor_told shape word = option_map_or (λ s. floor_number (shape_value s word) == accepted) shape false
 
-abbrev pub is_told : Option Shape → Delivery → Bool
-is_told shape d = is_good d.read_vout && is_near shape d.read_vout.word
+abbrev pub is_voltage_told : Option Shape → Delivery → Bool
+is_voltage_told shape d = is_good d.read_vout && is_floor_told shape d.read_vout.word
 
 -- it is rounded down
 abbrev pub IsFloorOf : Option Shape → ℕ → Option ℤ → Type 0
 IsFloorOf shape word told = IfSome told (λ x. IsSomeAnd shape (λ s. IsFloor (shape_value s word) x))
 
-abbrev pub IsTold : Option Shape → Delivery → Option ℤ → Type 0
-IsTold shape d told = IsFloorOf shape d.read_vout.word told
+abbrev pub IsToldVoltage : Option Shape → Delivery → Option ℤ → Type 0
+IsToldVoltage shape d told = IsFloorOf shape d.read_vout.word told
 
 -- which limits a word is at or beyond
 abbrev pub limit_code : Option Limit → ℕ

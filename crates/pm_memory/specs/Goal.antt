@@ -21,7 +21,7 @@ use Rattle.pm_rail.specs.Survey.{wanted_in}
 use Rattle.pm_course.specs.declared.frame_course.FrameCourse.{FrameCourse}
 use Rattle.pm_course.specs.Wishes.{voltage_of}
 use Rattle.pm_memory.specs.declared.guard_image.GuardImage.{GuardImage}
-use Rattle.pm_memory.specs.Delivery.{idle}
+use Rattle.pm_memory.specs.Delivery.{idle_host}
 use Rattle.pm_memory.specs.Numbers.{accepted, no_cell, no_course, no_goal, no_host}
 
 -- a register that an output can command by, which some byte of OPERATION selects: VOUT_COMMAND or a margin
@@ -58,14 +58,14 @@ IsGoalBy s c None register goal = IsWanted (format_at s c.course.survey.output) 
     (wants_of (wanted_in c.course.survey.plan) register) goal
 
 -- the number that is answered: E0h, E9h, H4, E1h, EDh
-abbrev pub register_number : Summary → FrameCourse → Option Reg → ℕ
-register_number s c None = no_cell
-register_number s c (Some register) = if has_goal s c register then accepted else no_goal
+abbrev pub goal_register_number : Summary → FrameCourse → Option Reg → ℕ
+goal_register_number s c None = no_cell
+goal_register_number s c (Some register) = if has_goal s c register then accepted else no_goal
 
 abbrev pub course_number : GuardImage → Option FrameCourse → Option Reg → ℕ
 course_number host None register = no_course
 course_number host (Some c) register = if nat_lt c.course.survey.output host.host.state.outputs
-    then register_number (idle host) c register else host_fault_number UnknownOutput
+    then goal_register_number (idle_host host) c register else host_fault_number UnknownOutput
 
 abbrev pub goal_number : GuardImage → Option FrameCourse → Option Reg → ℕ
 goal_number host c register = if is_some (host_of host.host) then course_number host c register else no_host

@@ -24,7 +24,7 @@ use Rattle.pm_table.specs.Cell.{is_cell}
 use Rattle.pm_host.specs.Image.{host_of, standing_held, words_held}
 use Rattle.pm_host.specs.Jobs.{accepted_job}
 use Rattle.pm_host.specs.Refusals.{is_within, setup_fault, may_come}
-use Rattle.pm_host.specs.Summary.{Summary, next, step_of, sending_in, possible_at, standing_at}
+use Rattle.pm_host.specs.Summary.{Summary, host_next, step_of, sending_in, possible_at, standing_at}
 use Rattle.pm_host.specs.Transcript.{Entry, Accepted, Got}
 use Rattle.pm_memory.specs.declared.host_step.HostStep.{HostStep}
 use Rattle.pm_memory.specs.declared.sending_image.SendingImage.{SendingImage}
@@ -45,7 +45,7 @@ job_number (Some g) None = no_cell
 job_number (Some g) (Some job) = limit_outcome (guard_fault g job)
 
 abbrev pub job_begun : Option Summary → Option Job → Option Summary
-job_begun host job = option_and_then (λ s. option_map (λ accepted. next s (Accepted accepted))
+job_begun host job = option_and_then (λ s. option_map (λ accepted. host_next s (Accepted accepted))
     (option_and_then (accepted_job s) job)) host
 
 -- How a call begins a job: exactly where the guard of these limits refuses it, it is refused, and leaves the
@@ -64,9 +64,9 @@ memory_number None = no_host
 memory_number (Some s) = accepted
 
 -- what is being sent
-abbrev pub IsSent : Option Summary → SendingImage → Type 0
-IsSent None sending = IsNothing sending
-IsSent (Some s) sending = MatchOption (sending_in s) (IsNothing sending)
+abbrev pub IsHostSending : Option Summary → SendingImage → Type 0
+IsHostSending None sending = IsNothing sending
+IsHostSending (Some s) sending = MatchOption (sending_in s) (IsNothing sending)
     (λ message. IsSending s.setup.addr message sending)
 
 -- how a call that tells what became of a frame is answered
@@ -100,25 +100,25 @@ abbrev pub refused_step : ℕ → HostStep
 refused_step number = record { kind = number; word = 0 }
 
 -- the entry may come where a host is there that is sending a frame of its kind
-abbrev pub is_told : Option Summary → Entry → Bool
-is_told host entry = option_map_or (λ s. may_come s entry) host false
+abbrev pub may_be_told : Option Summary → Entry → Bool
+may_be_told host entry = option_map_or (λ s. may_come s entry) host false
 
 abbrev pub told_answer : Option Summary → Entry → HostStep
 told_answer None entry = refused_step no_host
 told_answer (Some s) entry =
     if may_come s entry then host_step (fault_in s entry) (step_of s entry) else refused_step other_frame
 
-abbrev pub after : Option Summary → Entry → Option Summary
-after host entry = option_map (λ s. next s entry) host
+abbrev pub host_after_entry : Option Summary → Entry → Option Summary
+host_after_entry host entry = option_map (λ s. host_next s entry) host
 
 -- how a call tells it: a refused call leaves the memory as it is, and the limits stay
 pub record TellsHost (old : GuardImage) (entry : Entry) (result : HostStep) (new : GuardImage) : Type 0 where
   pub answer : result ≡ told_answer (host_of old.host) entry
-  pub told : is_told (host_of old.host) entry ≡ true → host_of new.host ≡ after (host_of old.host) entry
+  pub told : may_be_told (host_of old.host) entry ≡ true → host_of new.host ≡ host_after_entry (host_of old.host) entry
   pub limits : new.limits ≡ old.limits
   pub registers : new.registers ≡ old.registers
   pub written : IsMemory old → IsMemory new
-  pub refused : is_told (host_of old.host) entry ≡ false → new ≡ old
+  pub refused : may_be_told (host_of old.host) entry ≡ false → new ≡ old
 
 -- what is asked of a cell
 abbrev pub cell_number : Option Summary → Option Cell → ℕ

@@ -15,7 +15,8 @@ use Rattle.pm_memory.specs.Numbers.{accepted, limit_outcome, no_band_there, no_h
 use Rattle.pm_memory.specs.Numbers.{within_yes}
 use Rattle.pm_host.specs.FaultWords.{host_fault_number}
 use Rattle.pm_num.specs.FaultWords.{num_fault_number}
-use Rattle.pm_memory.specs.Voltages.{is_far, IsCeil, IsFloor}
+use Rattle.pm_memory.specs.Voltages.{IsCeil, IsFloor}
+use Rattle.pm_num.specs.Ratio.{is_far}
 
 -- limits are narrowed
 abbrev pub narrow_number : Option Guarded → ℕ → ℤ → ℤ → ℕ

@@ -78,12 +78,12 @@ abbrev pub within_not_known : ℕ
 within_not_known = 0x93
 
 -- a course has ended
-abbrev pub ended : ℕ
-ended = 0x95
+abbrev pub course_ended : ℕ
+course_ended = 0x95
 
 -- a sequence is to be asked again, or the way back of a step would be refused
-abbrev pub again : ℕ
-again = 0x96
+abbrev pub ask_again : ℕ
+ask_again = 0x96
 
 abbrev pub no_way_back : ℕ
 no_way_back = 0x97
@@ -91,11 +91,11 @@ no_way_back = 0x97
 abbrev pub wait : ℕ
 wait = 0x98
 
-abbrev pub asked : ℕ
-asked = 0x99
+abbrev pub question_asked_number : ℕ
+question_asked_number = 0x99
 
-abbrev pub told : ℕ
-told = 0x9A
+abbrev pub order_told_number : ℕ
+order_told_number = 0x9A
 
 -- what a call answers that is refused with this, or accepted
 abbrev pub outcome : Option HostFault → ℕ

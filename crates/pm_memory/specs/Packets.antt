@@ -19,24 +19,24 @@ use Rattle.pm_memory.specs.declared.packet.PacketImage.{PacketImage}
 use Rattle.pm_memory.specs.Numbers.{accepted, no_address, no_packet}
 
 -- a byte is a word below 256
-abbrev pub byte_in : ℕ → Option ℕ
-byte_in word = if nat_lt word 256 then Some word else None
+abbrev pub byte_of_word : ℕ → Option ℕ
+byte_of_word word = if nat_lt word 256 then Some word else None
 
 -- what a write carries, by how many bytes that is
-abbrev pub payload_in : ℕ → ℕ → Option Payload
-payload_in count word =
+abbrev pub payload_of_numbers : ℕ → ℕ → Option Payload
+payload_of_numbers count word =
     if count == 0 then Some Empty
-    else (if count == 1 then option_map (λ byte. Byte byte) (byte_in word)
+    else (if count == 1 then option_map (λ byte. Byte byte) (byte_of_word word)
     else (if count == 2 then Some (Word word) else None))
 
 -- the message; None where the numbers mean none
 abbrev pub packet_message : PacketImage → Option Message
 packet_message p =
     if p.kind == 1 then Some (SendByte p.code)
-    else (if p.kind == 2 then option_map (λ byte. WriteByte p.code byte) (byte_in p.word)
+    else (if p.kind == 2 then option_map (λ byte. WriteByte p.code byte) (byte_of_word p.word)
     else (if p.kind == 3 then Some (WriteWord p.code p.word)
     else (if p.kind == 4
-    then option_map (λ payload. PagePlusWrite p.page p.code payload) (payload_in p.count p.word)
+    then option_map (λ payload. PagePlusWrite p.page p.code payload) (payload_of_numbers p.count p.word)
     else (if p.kind == 5 then Some (ReadCommand p.code)
     else (if p.kind == 6 then Some (PagePlusRead p.page p.code)
     else (if p.kind == 7 then Some (ReadCoefficients p.code p.page) else None))))))

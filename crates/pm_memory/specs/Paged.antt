@@ -18,18 +18,18 @@ abbrev pub paged_answer : ℕ → ℕ
 paged_answer size = if size == 0 then 35 else size + 3
 
 -- PAGE_PLUS carries the code, and so many bytes are read at once
-abbrev pub is_paged : ℕ → ℕ → Bool
-is_paged code size = is_carried code && not (nat_lt most_read size)
+abbrev pub is_page_plus_read : ℕ → ℕ → Bool
+is_page_plus_read code size = is_carried code && not (nat_lt most_read size)
 
 abbrev pub paged_number : ℕ → ℕ → ℕ → ℕ
 paged_number address code size =
-    if is_within 0x08 0x77 address then (if is_paged code size then accepted else no_packet) else no_address
+    if is_within 0x08 0x77 address then (if is_page_plus_read code size then accepted else no_packet) else no_address
 
 -- the number that such a read answers
 abbrev pub read_paged_number : ℕ → ℕ → ℕ → ℕ → List ℕ → ℕ
 read_paged_number address page code size bytes =
     if is_within 0x08 0x77 address
-    then (if is_paged code size
+    then (if is_page_plus_read code size
     then option_map_or frame_fault_number (paged_fault address page code (size_asked size) bytes) accepted
     else no_packet)
     else no_address

@@ -42,7 +42,7 @@ use Rattle.pm_memory.specs.Course.{heard_step, IsAfter, IsFrameIn}
 use Rattle.pm_memory.specs.Host.{refused_step}
 use Rattle.pm_memory.specs.Numbers.{accepted, no_host, no_room, no_sequence, no_step, other_frame}
 use Rattle.pm_memory.specs.Paged.{IsPagedSending}
-use Rattle.pm_memory.specs.SequenceSaid.{nothing_said, number_said, rail_said, step_said, IsSaid}
+use Rattle.pm_memory.specs.SequenceSaid.{nothing_said, number_said, rail_said, step_said, IsSaidLast}
 use Rattle.pm_memory.specs.SequenceStep.{back_image, step_in}
 
 -- the rules that a number says: 1 a way back is kept, 2 a restart ends the list, 4 a step that stops is left, 8 each order is told before
@@ -105,10 +105,10 @@ pub record AreAsked (host : GuardImage) (image : SequenceImage) (steps : List Se
 -- ---- What is handed out ----
 
 -- how many bytes a whole answer has to what is asked beside the host's jobs, the read address first
-abbrev pub whole_answer : Act → ℕ
-whole_answer (act.Ask question) = question_size question + 3
-whole_answer act.Probe = 4
-whole_answer said = 0
+abbrev pub whole_answer_size : Act → ℕ
+whole_answer_size (act.Ask question) = question_size question + 3
+whole_answer_size act.Probe = 4
+whole_answer_size said = 0
 
 -- a request is to be sent, to which a whole answer has so many bytes; or nothing
 abbrev pub IsRequest : Option (List ℕ) → ℕ → SendingImage → Type 0
@@ -118,7 +118,7 @@ IsRequest (Some bytes) whole i = (i.kind ≡ request_kind) × (i.answer ≡ whol
 -- the frame of a job, or the request of what is asked beside the jobs, or nothing
 abbrev pub IsFrameNext : Guarded → Sequence → Option Sending → Act → SendingImage → Type 0
 IsFrameNext g q (Some sent) said i = IsFrameIn (Some sent) i
-IsFrameNext g q None said i = IsRequest (request_of g.host.setup.addr q.look.delivery.output said) (whole_answer said) i
+IsFrameNext g q None said i = IsRequest (request_of g.host.setup.addr q.look.delivery.output said) (whole_answer_size said) i
 
 pub record IsPutNext (g : Guarded) (q : Sequence) (at : Option Stage) (said : Act) (i : SendingImage) : Type 0 where
   pub sent : Option Sending
@@ -174,20 +174,20 @@ is_look_said (act.Leaves why) = is_kept_at why
 is_look_said (act.Ended why) = is_kept_at why
 
 -- one record is another now, where there is room
-abbrev pub back_of : SequenceStepImage → SequenceRecordImage → SequenceRecordImage
-back_of back r = record r { back = back }
+abbrev pub record_with_back : SequenceStepImage → SequenceRecordImage → SequenceRecordImage
+record_with_back back r = record r { back = back }
 
-abbrev pub look_of : DeliveryImage → SequenceRecordImage → SequenceRecordImage
-look_of look r = record r { look = look }
+abbrev pub record_with_look : DeliveryImage → SequenceRecordImage → SequenceRecordImage
+record_with_look look r = record r { look = look }
 
 abbrev pub put_at : List SequenceRecordImage → ℕ → (SequenceRecordImage → SequenceRecordImage) → List SequenceRecordImage
 put_at records at change = option_map_or (λ r. slice_set records at (change r)) (slice_get records at) records
 
 abbrev pub with_back : List SequenceRecordImage → ℕ → SequenceStepImage → List SequenceRecordImage
-with_back records at back = put_at records at (back_of back)
+with_back records at back = put_at records at (record_with_back back)
 
-abbrev pub with_look : List SequenceRecordImage → ℕ → DeliveryImage → List SequenceRecordImage
-with_look records at look = put_at records at (look_of look)
+abbrev pub records_with_look : List SequenceRecordImage → ℕ → DeliveryImage → List SequenceRecordImage
+records_with_look records at look = put_at records at (record_with_look look)
 
 abbrev pub backs_after : Sequence → Sequence → Option WordStep → List SequenceRecordImage → List SequenceRecordImage
 backs_after was is None records = records
@@ -196,7 +196,7 @@ backs_after was is (Some back) records =
 
 abbrev pub looks_after : Sequence → Act → List SequenceRecordImage → List SequenceRecordImage
 looks_after is said records =
-    if is_look_said said then with_look records (step_said is said) (delivery_image is.look.delivery) else records
+    if is_look_said said then records_with_look records (step_said is said) (delivery_image is.look.delivery) else records
 
 abbrev pub records_after : Sequence → Sequence → Act → List SequenceRecordImage → List SequenceRecordImage
 records_after was is said records = looks_after is said (backs_after was is (back_said said) records)
@@ -210,7 +210,7 @@ pub data NextIn (old : GuardImage) (was : SequenceImage) (steps : List SequenceS
       → IsNothing sending → NextIn old was steps records number old was records sending
   hands_next : (g next : Guarded) (q is : Sequence) (under ahead : Option Step) (sent : Option Sending) (said : Act) (new : GuardImage)
       (told : SaidImage) (sending : SendingImage) → AreAsked old was steps (length records) g q under ahead
-      → HandsOut g under ahead q sent said next is → IsFrameNext next is sent said sending → IsSaid new is said was.said told
+      → HandsOut g under ahead q sent said next is → IsFrameNext next is sent said sending → IsSaidLast new is said was.said told
       → IsAfter old new next
       → NextIn old was steps records (number_sent sent said) new (sequence_image is told) (records_after q is said records) sending
 

@@ -57,8 +57,8 @@ question_read code =
     else (if code == question_code StatusTemperature then Some StatusTemperature
     else (if code == question_code ReadVout then Some ReadVout else None)))))))))))
 
-abbrev pub verdict_read : VerdictNumbers → Option Verdict
-verdict_read i =
+abbrev pub verdict_of_numbers : VerdictNumbers → Option Verdict
+verdict_of_numbers i =
     if i.kind == 0 then Some verdict.NotYet
     else (if i.kind == 1 then Some verdict.Delivers
     else (if i.kind == 2 then Some verdict.CommandedOff
@@ -136,7 +136,7 @@ abbrev pub beyond_read : SequenceEndImage → Option End
 beyond_read i = option_map (λ limit. end.Beyond (BeyondFaultLimit limit i.word)) (question_read i.code)
 
 abbrev pub does_read : SequenceEndImage → Option End
-does_read i = option_map (λ verdict. end.Does verdict) (verdict_read (verdict_said i.verdict i.code i.bit (i.fault % 256)))
+does_read i = option_map (λ verdict. end.Does verdict) (verdict_of_numbers (verdict_said i.verdict i.code i.bit (i.fault % 256)))
 
 abbrev pub end_read : SequenceEndImage → Option End
 end_read i =

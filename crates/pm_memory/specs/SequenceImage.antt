@@ -37,8 +37,8 @@ abbrev pub silence_read : SilenceImage → Silence
 silence_read i = record { rounds = i.rounds; has_answered = i.has_answered == 1 }
 
 -- the read of OPERATION: 1 if any answer came, and 2 more if the last one leaves the output off
-abbrev pub answer_number : Bool → Bool → ℕ
-answer_number there off = flag there + (if off then 2 else 0)
+abbrev pub probe_answer_number : Bool → Bool → ℕ
+probe_answer_number there off = flag there + (if off then 2 else 0)
 
 -- with how many orders that turn its output on the step under way had
 abbrev pub look_image : Look → ℕ → LookImage
@@ -48,7 +48,7 @@ look_image l turned_on = record {
   status = silence_image l.status;
   vout = silence_image l.vout;
   probed = l.probe.asked;
-  is_there = answer_number l.probe.is_there l.probe.is_off;
+  is_there = probe_answer_number l.probe.is_there l.probe.is_off;
   is_over = flag l.probe.is_over;
   turned_on = turned_on;
 }
@@ -91,16 +91,16 @@ abbrev pub fresh_read : ℕ → Fresh
 fresh_read n = if n == 1 then fresh.Under else (if n == 2 then fresh.Ahead else fresh.Nothing)
 
 -- the order that was told last, and whose survey is fresh
-abbrev pub told_by : Option Job → ℕ → ToldImage
-told_by None n = record { has = 0; code = 0; output = 0; fresh = n; word = 0 }
-told_by (Some (Order cell word)) n = record { has = 1; code = cell_code cell; output = output_of cell; fresh = n; word = word }
-told_by (Some (OrderMicro cell x)) n = record { has = 0; code = 0; output = 0; fresh = n; word = 0 }
-told_by (Some (Check cell)) n = record { has = 0; code = 0; output = 0; fresh = n; word = 0 }
-told_by (Some (Learn output)) n = record { has = 0; code = 0; output = 0; fresh = n; word = 0 }
-told_by (Some (Send command)) n = record { has = 0; code = 0; output = 0; fresh = n; word = 0 }
+abbrev pub told_image_of : Option Job → ℕ → ToldImage
+told_image_of None n = record { has = 0; code = 0; output = 0; fresh = n; word = 0 }
+told_image_of (Some (Order cell word)) n = record { has = 1; code = cell_code cell; output = output_of cell; fresh = n; word = word }
+told_image_of (Some (OrderMicro cell x)) n = record { has = 0; code = 0; output = 0; fresh = n; word = 0 }
+told_image_of (Some (Check cell)) n = record { has = 0; code = 0; output = 0; fresh = n; word = 0 }
+told_image_of (Some (Learn output)) n = record { has = 0; code = 0; output = 0; fresh = n; word = 0 }
+told_image_of (Some (Send command)) n = record { has = 0; code = 0; output = 0; fresh = n; word = 0 }
 
 abbrev pub told_written : Option Job → Fresh → ToldImage
-told_written told it = told_by told (fresh_number it)
+told_written told it = told_image_of told (fresh_number it)
 
 abbrev pub told_read : ToldImage → Option Job
 told_read i = if i.has == 1 then option_map (λ cell. Order cell i.word) (cell_at i.code i.output) else None

@@ -17,28 +17,28 @@ use Rattle.pm_memory.specs.declared.sequence_end.SequenceEndImage.{SequenceEndIm
 use Rattle.pm_memory.specs.declared.sequence_image.SaidImage.{SaidImage}
 use Rattle.pm_memory.specs.CourseImage.{job_code, job_word}
 use Rattle.pm_memory.specs.SequenceEnd.{end_written}
-use Rattle.pm_memory.specs.Delivery.{idle, is_told, said_by, word_of, IsTold}
-use Rattle.pm_memory.specs.Numbers.{accepted, again, asked, ended, no_way_back, told, wait}
+use Rattle.pm_memory.specs.Delivery.{idle_host, is_voltage_told, said_by, heard_word_of, IsToldVoltage}
+use Rattle.pm_memory.specs.Numbers.{accepted, ask_again, question_asked_number, course_ended, no_way_back, order_told_number, wait}
 
 -- what is answered where no job begins
 abbrev pub number_said : Act → ℕ
 number_said (act.Job job) = accepted
 number_said (act.Begins job back) = accepted
-number_said (act.Passes back) = again
-number_said (act.Order job) = asked
+number_said (act.Passes back) = ask_again
+number_said (act.Order job) = question_asked_number
 number_said (act.Ask question) = accepted
 number_said act.Probe = accepted
 number_said act.Pause = wait
 number_said (act.Wait milliseconds) = wait
-number_said act.Again = again
+number_said act.Again = ask_again
 number_said (act.NoWayBack fault) = no_way_back
-number_said (act.Does found) = told
-number_said (act.Leaves why) = told
-number_said (act.Ended why) = ended
+number_said (act.Does found) = order_told_number
+number_said (act.Leaves why) = order_told_number
+number_said (act.Ended why) = course_ended
 
 -- the newest step that has begun
-abbrev pub step_under : Sequence → ℕ
-step_under q = if nat_lt 0 q.list.begun then q.list.begun - 1 else 0
+abbrev pub newest_begun_step : Sequence → ℕ
+newest_begun_step q = if nat_lt 0 q.list.begun then q.list.begun - 1 else 0
 
 -- The step that something is said of: one that was left is the newest, and a list that ended without one that stopped has so many steps.
 abbrev pub step_ended : Sequence → End → ℕ
@@ -56,12 +56,12 @@ step_said q (act.Passes back) = q.list.begun
 step_said q (act.Order job) = step_stopped q.list
 step_said q (act.Ask question) = q.list.begun
 step_said q act.Probe = q.list.begun
-step_said q act.Pause = step_under q
+step_said q act.Pause = newest_begun_step q
 step_said q (act.Wait milliseconds) = q.list.begun
 step_said q act.Again = q.list.begun
 step_said q (act.NoWayBack fault) = q.list.begun
-step_said q (act.Does found) = step_under q
-step_said q (act.Leaves why) = step_under q
+step_said q (act.Does found) = newest_begun_step q
+step_said q (act.Leaves why) = newest_begun_step q
 step_said q (act.Ended why) = step_ended q why
 
 -- what a rail does of which something is said
@@ -153,18 +153,18 @@ numbers_said q (act.Passes back) was = was
 numbers_said q (act.Order job) was = order_said job (step_stopped q.list)
 numbers_said q (act.Ask question) was = was
 numbers_said q act.Probe was = was
-numbers_said q act.Pause was = wait_said (pause_of q.look.delivery.round) (step_under q)
+numbers_said q act.Pause was = wait_said (pause_of q.look.delivery.round) (newest_begun_step q)
 numbers_said q (act.Wait milliseconds) was = wait_said milliseconds q.list.begun
 numbers_said q act.Again was = was
 numbers_said q (act.NoWayBack fault) was = way_back_said fault q.list.begun
-numbers_said q (act.Does found) was = end_said (end.Does found) 13 (step_under q)
-numbers_said q (act.Leaves why) was = end_said why 0 (step_under q)
+numbers_said q (act.Does found) was = end_said (end.Does found) 13 (newest_begun_step q)
+numbers_said q (act.Leaves why) was = end_said why 0 (newest_begun_step q)
 numbers_said q (act.Ended why) was = end_said why 0 (step_ended q why)
 
 -- READ_VOUT of a look, where it gave a good answer
 pub record IsReading (host : GuardImage) (d : Delivery) (reading : Option ℤ) : Type 0 where
-  pub told : nat_lt d.output 8 ≡ true → is_some reading ≡ is_told (format_at (idle host) d.output) d
-  pub floor : IsTold (format_at (idle host) d.output) d reading
+  pub told : nat_lt d.output 8 ≡ true → is_some reading ≡ is_voltage_told (format_at (idle_host host) d.output) d
+  pub floor : IsToldVoltage (format_at (idle_host host) d.output) d reading
 
 -- with what a register held, and with a reading
 abbrev pub said_with : SaidImage → ℕ → Option ℤ → SaidImage
@@ -174,7 +174,7 @@ said_with numbers word (Some x) = record numbers { word = word; has_microvolts =
 -- numbers that are with what its register held, and with a reading
 pub record IsSaidOf (host : GuardImage) (d : Delivery) (numbers : SaidImage) (found : Verdict) (new : SaidImage) : Type 0 where
   pub reading : Option ℤ
-  pub written : new ≡ said_with numbers (word_of d (said_by found)) reading
+  pub written : new ≡ said_with numbers (heard_word_of d (said_by found)) reading
   pub is_reading : IsReading host d reading
 
 abbrev pub IsSaidBy : GuardImage → Delivery → SaidImage → Option Verdict → SaidImage → Type 0
@@ -182,5 +182,5 @@ IsSaidBy host d numbers None new = new ≡ numbers
 IsSaidBy host d numbers (Some found) new = IsSaidOf host d numbers found new
 
 -- what was said last, once a sequence has said this
-abbrev pub IsSaid : GuardImage → Sequence → Act → SaidImage → SaidImage → Type 0
-IsSaid host q said was new = IsSaidBy host q.look.delivery (numbers_said q said was) (rail_said said) new
+abbrev pub IsSaidLast : GuardImage → Sequence → Act → SaidImage → SaidImage → Type 0
+IsSaidLast host q said was new = IsSaidBy host q.look.delivery (numbers_said q said was) (rail_said said) new

@@ -1,6 +1,6 @@
 -- The steps of a sequence as plain numbers in a caller's memory, and what they mean. This project's own choice.
 use Rattle.std.specs.Prelude.{ℕ, Bool, not, ◌&&◌, ◌||◌, ◌==◌, nat_lt, if◌then◌else◌, Result, Ok, Err}
-use Rattle.pm_delivery.specs.Heard.{nothing}
+use Rattle.pm_delivery.specs.Heard.{nothing_asked}
 use Rattle.pm_sequence.specs.declared.step.Looks.{Looks}
 use Rattle.pm_sequence.specs.declared.step.Step.{Step}
 use Rattle.pm_stairs.specs.declared.sequence.Placed.{Placed}
@@ -25,13 +25,13 @@ looks_asked i = record {
   rounds = i.rounds;
 }
 
-abbrev pub step_with : SequenceStepImage → Result Placed ℕ → Result Step ℕ
-step_with i (Err number) = Err number
-step_with i (Ok placed) = if are_looks i then Ok (record { placed = placed; wait = i.wait; looks = looks_asked i; before = i.before }) else Err no_step
+abbrev pub step_of_image : SequenceStepImage → Result Placed ℕ → Result Step ℕ
+step_of_image i (Err number) = Err number
+step_of_image i (Ok placed) = if are_looks i then Ok (record { placed = placed; wait = i.wait; looks = looks_asked i; before = i.before }) else Err no_step
 
 -- the step, or what is wrong with it: H4, EFh
 abbrev pub step_in : SequenceStepImage → Result Step ℕ
-step_in i = step_with i (placed_in i.placed)
+step_in i = step_of_image i (placed_in i.placed)
 
 -- the step that undoes another one, as it is written: nothing is looked at
 abbrev pub back_image : ℕ → WordStep → SequenceStepImage
@@ -44,5 +44,5 @@ back_image host step = record {
   within = 0;
   rounds = 0;
   wait = 0;
-  before = nothing;
+  before = nothing_asked;
 }

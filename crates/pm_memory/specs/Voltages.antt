@@ -4,7 +4,7 @@ use Rattle.std.specs.Option.{option_map_or}
 use Rattle.pm_num.specs.declared.fault.NumFault.TheVariants.{TooLarge}
 use Rattle.pm_num.specs.AnyFormat.{Shape, shape_highest, shape_lowest, shape_value}
 use Rattle.pm_num.specs.Bounds.{at_least_fault, at_most_fault}
-use Rattle.pm_num.specs.Ratio.{Ratio, AtMost, is_above, micros}
+use Rattle.pm_num.specs.Ratio.{Ratio, AtMost, is_above, micros, is_far}
 use Rattle.pm_host.specs.declared.fault.HostFault.TheVariants.{FormatUnknown, UnknownOutput}
 use Rattle.pm_host.specs.Refusals.{range_fault}
 use Rattle.pm_host.specs.Summary.{Summary}
@@ -45,10 +45,6 @@ pub record IsNear (x : ℤ) : Type 0 where
 pub record IsSmall (x : ℤ) : Type 0 where
   pub above : neg_ℤ (pos (10 ^ 16)) ≤ℤ x
   pub below : x ≤ℤ pos (10 ^ 16)
-
--- the value is beyond 10^15 microvolts in size
-abbrev pub is_far : Ratio → Bool
-is_far value = is_above value (micros (pos (10 ^ 15))) || is_above (micros (neg_ℤ (pos (10 ^ 15)))) value
 
 -- the whole microvolts of a value are asked: N5 where it is that far
 abbrev pub floor_number : Ratio → ℕ

@@ -3,7 +3,7 @@
 ghost use Rattle.std.specs.Prelude.{◌≡◌};
 ghost use Rattle.pm_rail.specs.Survey.{wanted_in};
 ghost use Rattle.pm_memory.specs.Flag.{flag as spec_flag};
-ghost use Rattle.pm_memory.specs.CourseImage.{course_held, course_image, course_in, differed_held, differed_image, end_in, has_image, is_course as spec_is_course, job_code, job_held, job_kind, job_word, plan_held, read_held, read_image, twice_held, voltages_held, voltages_image, way_held};
+ghost use Rattle.pm_memory.specs.CourseImage.{course_held, course_image, course_in, differed_held, differed_image, end_in_image, has_image, is_course as spec_is_course, job_code, job_held, job_kind, job_word, plan_held, read_held, read_image, twice_held, voltages_held, voltages_image, way_held};
 
 use crate::course_end_image::{EndNumbers, end_held, fault_held, number_of};
 use crate::wanted_image::WantedImage;
@@ -356,7 +356,7 @@ impl CourseImage {
 
     // How it ended.
     fn end(&self) -> Option<CourseEnd>
-        ensures { result ≡ end_in self.now }
+        ensures { result ≡ end_in_image self.now }
     {
         end_held(&EndNumbers {
             kind: self.end_kind,

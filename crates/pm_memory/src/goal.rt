@@ -8,8 +8,8 @@ ghost use Rattle.pm_rail.specs.Registers.{wants_of};
 ghost use Rattle.pm_rail.specs.Survey.{wanted_in};
 ghost use Rattle.pm_course.specs.Wishes.{voltage_of};
 ghost use Rattle.pm_table.specs.Cell.{register_of, IsCell};
-ghost use Rattle.pm_memory.specs.Delivery.{idle};
-ghost use Rattle.pm_memory.specs.Goal.{course_number, has_goal, has_goal_by, has_wanted, is_commanding as spec_is_commanding, register_number, selected_goal as spec_selected_goal, IsGoalBy, IsWanted};
+ghost use Rattle.pm_memory.specs.Delivery.{idle_host};
+ghost use Rattle.pm_memory.specs.Goal.{course_number, has_goal, has_goal_by, has_wanted, is_commanding as spec_is_commanding, goal_register_number, selected_goal as spec_selected_goal, IsGoalBy, IsWanted};
 
 use crate::GuardImage;
 use crate::numbers::{ACCEPTED, NO_CELL, NO_GOAL};
@@ -27,7 +27,7 @@ pub fn course_goal(
     requires { asked.now.course.survey.output < 8 }
     ensures number { result ≡ course_number host.now (Some asked.now) register }
     ensures goal { result ≡ 0 → IsSomeAnd register
-        (λ r. IsGoalBy (idle host.now) asked.now asked.now.course.byte r (Some word.new)) }
+        (λ r. IsGoalBy (idle_host host.now) asked.now asked.now.course.byte r (Some word.new)) }
     ensures refused { result ≢ 0 → word.new ≡ word.old }
 {
     if host.host.state.outputs <= asked.course.survey.output {
@@ -42,7 +42,7 @@ pub fn course_goal(
 // The goal of a register, if the course has one.
 fn register_goal(asked: &FrameCourse, state: &State, register: Reg, word: &mut u16) -> u8
     requires { asked.now.course.survey.output < 8 }
-    ensures number { result ≡ register_number (held None state.now) asked.now (Some register) }
+    ensures number { result ≡ goal_register_number (held None state.now) asked.now (Some register) }
     ensures goal { result ≡ 0 → IsGoalBy (held None state.now) asked.now asked.now.course.byte register (Some word.new) }
     ensures refused { result ≢ 0 → word.new ≡ word.old }
 {

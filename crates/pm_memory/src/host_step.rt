@@ -3,7 +3,7 @@
 ghost use Rattle.std.specs.Prelude.{◌≡◌, true};
 ghost use Rattle.pm_table.specs.Address.{IsAddress};
 ghost use Rattle.pm_frame.specs.Layout.{is_read_message};
-ghost use Rattle.pm_host.specs.Sound.{HasWord};
+ghost use Rattle.pm_host.specs.Sound.{AcceptsWrittenWord};
 ghost use Rattle.pm_host.specs.Summary.{stage_message};
 ghost use Rattle.pm_host.specs.Told.{entry_told, is_awaited};
 ghost use Rattle.pm_host.specs.Transcript.{Got};
@@ -28,7 +28,7 @@ pub struct HostStep {
 #[inline(always)]
 pub(crate) fn step_after(step: Step, address: u8, stage: Stage, told: Told<'_>) -> HostStep
     requires address { IsAddress address }
-    requires word { HasWord stage }
+    requires word { AcceptsWrittenWord stage }
     requires awaited { is_awaited stage told ≡ true }
     ensures { result ≡ host_step (told_fault address (stage_message stage) (entry_told told.entry)) step }
 {
@@ -46,7 +46,7 @@ pub(crate) fn step_after(step: Step, address: u8, stage: Stage, told: Told<'_>) 
 #[inline(always)]
 fn fault_told(address: u8, stage: Stage, told: Told<'_>) -> u16
     requires address { IsAddress address }
-    requires word { HasWord stage }
+    requires word { AcceptsWrittenWord stage }
     requires awaited { is_awaited stage told ≡ true }
     ensures { result ≡ told_fault address (stage_message stage) (entry_told told.entry) }
 {
@@ -60,7 +60,7 @@ fn fault_told(address: u8, stage: Stage, told: Told<'_>) -> u16
 #[inline(never)]
 fn answer_fault(address: u8, stage: Stage, bytes: &[u8]) -> u16
     requires address { IsAddress address }
-    requires word { HasWord stage }
+    requires word { AcceptsWrittenWord stage }
     requires read { is_read_message (stage_message stage) ≡ true }
     ensures { result ≡ told_fault address (stage_message stage) (Got bytes.now) }
 {

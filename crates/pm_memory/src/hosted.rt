@@ -7,7 +7,7 @@ ghost use Rattle.pm_host.specs.Image.{held};
 ghost use Rattle.pm_host.specs.Jobs.{HasNearestWord, accepted_job};
 ghost use Rattle.pm_host.specs.Memory.{IsState};
 ghost use Rattle.pm_host.specs.Sound.{IsSound};
-ghost use Rattle.pm_host.specs.Summary.{next};
+ghost use Rattle.pm_host.specs.Summary.{host_next};
 ghost use Rattle.pm_host.specs.Transcript.{Accepted};
 ghost use Rattle.pm_limits.specs.Guard.{LetsBegin, limited_fault};
 ghost use Rattle.pm_course.specs.Hosted.{begun_as};
@@ -112,7 +112,7 @@ fn begin_within(
     ensures sound { IfOk result (λ at. IsSound (held (Some at) state.new)) }
     ensures fault { result_err result ≡ limited_fault registers limits.now (held stage state.old) job }
     ensures ok { IfOk result (λ at. IsSomeAnd (accepted_job (held stage state.old) job)
-        (λ begun. held (Some at) state.new ≡ next (held stage state.old) (Accepted begun))) }
+        (λ begun. held (Some at) state.new ≡ host_next (held stage state.old) (Accepted begun))) }
     ensures nearest { OnOk result (HasNearestWord (held stage state.old) job) }
     ensures kept { IfOk result (λ at. (held (Some at) state.new).setup ≡ (held stage state.old).setup) }
     ensures left { IfOk result (λ at. frames_left (held (Some at) state.new) ≤ 2 * state.new.passes) }

@@ -2,7 +2,7 @@
 
 ghost use Rattle.std.specs.Prelude.{◌≡◌, ◌<◌};
 ghost use Rattle.pm_host.specs.Summary.{format_at};
-ghost use Rattle.pm_memory.specs.Delivery.{asked_number, idle, judged_number, judgement_by, judgement_image, limit_code, limit_word};
+ghost use Rattle.pm_memory.specs.Delivery.{asked_number, idle_host, judged_number, judgement_by, judgement_image, limit_code, limit_word};
 
 use crate::numbers::{ACCEPTED, NO_DELIVERY, NO_HOST};
 use crate::{DeliveryImage, GuardImage};
@@ -48,8 +48,8 @@ pub fn judge_in(
     judgement: &mut JudgementImage,
 ) -> u8
     requires { delivery.now.output < 8 }
-    ensures number { result ≡ judged_number (format_at (idle host.now) delivery.now.output) delivery.now word }
-    ensures judgement { judgement.new ≡ judgement_by (format_at (idle host.now) delivery.now.output) delivery.now word judgement.old }
+    ensures number { result ≡ judged_number (format_at (idle_host host.now) delivery.now.output) delivery.now word }
+    ensures judgement { judgement.new ≡ judgement_by (format_at (idle_host host.now) delivery.now.output) delivery.now word judgement.old }
 {
     let Some(format) = host.host.state.format(delivery.output).format() else {
         return HostFault::FormatUnknown.number();

@@ -1,7 +1,7 @@
 //! A look at a rail in a caller's memory, as plain numbers.
 
 ghost use Rattle.std.specs.Prelude.{◌≡◌};
-ghost use Rattle.pm_memory.specs.SequenceImage.{answer_number as spec_answer_number, look_image, look_read, silence_image, silence_read};
+ghost use Rattle.pm_memory.specs.SequenceImage.{probe_answer_number as spec_answer_number, look_image, look_read, silence_image, silence_read};
 
 use pm_delivery::{Delivery, Heard};
 use pm_sequence::{Look, Probe, Silence};

@@ -1,7 +1,7 @@
 //! Packets without a host: their packet error code, their bytes and what bytes say.
 
 ghost use Rattle.std.specs.Prelude.{◌≡◌, Some};
-ghost use Rattle.pm_memory.specs.Packets.{packet_message, payload_in};
+ghost use Rattle.pm_memory.specs.Packets.{packet_message, payload_of_numbers};
 
 use pm_frame::{Message, Payload};
 
@@ -56,7 +56,7 @@ impl PacketImage {
 
 // What a write of this many bytes carries.
 fn payload(count: u8, word: u16) -> Option<Payload>
-    ensures { result ≡ payload_in count word }
+    ensures { result ≡ payload_of_numbers count word }
 {
     match count {
         0 => Some(Payload::Empty),

@@ -4,7 +4,7 @@ ghost use Rattle.std.specs.Prelude.{◌≡◌, ◌<◌, is_some, Some, None};
 ghost use Rattle.pm_host.specs.Image.{held};
 ghost use Rattle.pm_host.specs.Summary.{format_at};
 ghost use Rattle.pm_num.specs.AnyFormat.{shape_of};
-ghost use Rattle.pm_memory.specs.Delivery.{idle, is_near, is_told, said_by as spec_said_by, word_of as spec_word_of, IsFloorOf, IsTold};
+ghost use Rattle.pm_memory.specs.Delivery.{idle_host, is_floor_told, is_voltage_told, said_by as spec_said_by, heard_word_of as spec_word_of, IsFloorOf, IsToldVoltage};
 
 use crate::GuardImage;
 use crate::numbers::ACCEPTED;
@@ -16,8 +16,8 @@ use pm_num::{AnyFormat, NumFormat};
 /// READ_VOUT in microvolts, if it gave a good answer and its format is known.
 pub(crate) fn told(delivery: &Delivery, host: &GuardImage) -> Option<i64>
     requires { delivery.now.output < 8 }
-    ensures told { is_some result ≡ is_told (format_at (idle host.now) delivery.now.output) delivery.now }
-    ensures floor { IsTold (format_at (idle host.now) delivery.now.output) delivery.now result }
+    ensures told { is_some result ≡ is_voltage_told (format_at (idle_host host.now) delivery.now.output) delivery.now }
+    ensures floor { IsToldVoltage (format_at (idle_host host.now) delivery.now.output) delivery.now result }
 {
     if delivery.read_vout.is_good() {
         floor_at(&host.host.state, delivery.output, delivery.read_vout.word)
@@ -29,7 +29,7 @@ pub(crate) fn told(delivery: &Delivery, host: &GuardImage) -> Option<i64>
 // A word of an output's voltage in microvolts, rounded down, if its format is known.
 fn floor_at(state: &State, output: u8, word: u16) -> Option<i64>
     requires { output < 8 }
-    ensures told { is_some result ≡ is_near (format_at (held None state.now) output) word }
+    ensures told { is_some result ≡ is_floor_told (format_at (held None state.now) output) word }
     ensures floor { IsFloorOf (format_at (held None state.now) output) word result }
 {
     match state.format(output).format() {
@@ -40,7 +40,7 @@ fn floor_at(state: &State, output: u8, word: u16) -> Option<i64>
 
 // A word in microvolts, rounded down, by a format.
 fn floor_of(format: &AnyFormat, word: u16) -> Option<i64>
-    ensures told { is_some result ≡ is_near (Some (shape_of format.now)) word }
+    ensures told { is_some result ≡ is_floor_told (Some (shape_of format.now)) word }
     ensures floor { IsFloorOf (Some (shape_of format.now)) word result }
 {
     let mut microvolts = 0;

@@ -4,7 +4,7 @@ ghost use Rattle.std.specs.Prelude.{◌≡◌, length, IfSome, None, Ok, Some};
 ghost use Rattle.std.specs.Result.{result_err, IfErr, IfOk, OnOk};
 ghost use Rattle.pm_host.specs.Told.{entry_told};
 ghost use Rattle.pm_sequence.specs.Frames.{heard_in};
-ghost use Rattle.pm_memory.specs.Sequence.{asked_fault, back_said as spec_back_said, backs_after, both_fault, is_look as spec_is_look, is_look_said as spec_is_look_said, lacks_room as spec_lacks_room, list_fault as spec_list_fault, looks_after, number_next as spec_number_next, records_after, rules_said, sequence_begun, step_at as spec_step_at, step_under as spec_step_under, steps_fault as spec_steps_fault, whole_answer as spec_whole_answer, with_back, with_look, AreBoth, HearsIn, IsPutNext, NextIn, ReadIn};
+ghost use Rattle.pm_memory.specs.Sequence.{asked_fault, back_said as spec_back_said, backs_after, both_fault, is_look as spec_is_look, is_look_said as spec_is_look_said, lacks_room as spec_lacks_room, list_fault as spec_list_fault, looks_after, number_next as spec_number_next, records_after, rules_said, sequence_begun, step_at as spec_step_at, step_under as spec_step_under, steps_fault as spec_steps_fault, whole_answer_size as spec_whole_answer, with_back, records_with_look, AreBoth, HearsIn, IsPutNext, NextIn, ReadIn};
 ghost use Rattle.pm_memory.specs.Guard.{guard_of};
 ghost use Rattle.pm_memory.specs.Hosted.{IsThere, guard_in};
 ghost use Rattle.pm_memory.specs.SequenceImage.{sequence_image, sequence_in, sequence_meant};
@@ -210,7 +210,7 @@ fn put_back(records: &mut [SequenceRecordImage], at: usize, back: SequenceStepIm
 
 // Keeps what was heard of a rail at the place of its step, if there is room.
 fn put_look(records: &mut [SequenceRecordImage], at: usize, look: DeliveryImage)
-    ensures { records.new ≡ with_look records.old at look }
+    ensures { records.new ≡ records_with_look records.old at look }
 {
     if at < records.len() {
         records[at].look = look;

@@ -1,7 +1,7 @@
 //! How a sequence ends and what a rail does, as plain numbers.
 
 ghost use Rattle.std.specs.Prelude.{◌≡◌};
-ghost use Rattle.pm_memory.specs.SequenceEnd.{beyond_read, does_read, end_read, end_written, question_read, stop_numbers, stop_read, stop_written, verdict_numbers, verdict_read, verdict_said};
+ghost use Rattle.pm_memory.specs.SequenceEnd.{beyond_read, does_read, end_read, end_written, question_read, stop_numbers, stop_read, stop_written, verdict_numbers, verdict_of_numbers, verdict_said};
 
 use crate::course_end_image::{EndNumbers, end_held};
 use pm_delivery::{DeliveryFault, Question, Verdict};
@@ -87,7 +87,7 @@ impl VerdictNumbers {
 
     // The verdict that numbers mean.
     fn verdict(&self) -> Option<Verdict>
-        ensures { result ≡ verdict_read self.now }
+        ensures { result ≡ verdict_of_numbers self.now }
     {
         match self.kind {
             0 => Some(Verdict::NotYet),

@@ -1,7 +1,7 @@
 //! What a sequence says, as plain numbers.
 
 ghost use Rattle.std.specs.Prelude.{◌≡◌};
-ghost use Rattle.pm_memory.specs.SequenceSaid.{end_said, number_said as spec_number_said, numbers_said as spec_numbers_said, order_said as spec_order_said, pause_of as spec_pause_of, rail_of as spec_rail_of, rail_said as spec_rail_said, said_with as spec_said_with, step_said as spec_step_said, step_under as spec_step_under, wait_said as spec_wait_said, way_back_said as spec_way_back_said, IsReading, IsSaid};
+ghost use Rattle.pm_memory.specs.SequenceSaid.{end_said, number_said as spec_number_said, numbers_said as spec_numbers_said, order_said as spec_order_said, pause_of as spec_pause_of, rail_of as spec_rail_of, rail_said as spec_rail_said, said_with as spec_said_with, step_said as spec_step_said, newest_begun_step as spec_step_under, wait_said as spec_wait_said, way_back_said as spec_way_back_said, IsReading, IsSaidLast};
 
 use crate::numbers::{ACCEPTED, AGAIN, ASKED, ENDED, NO_WAY_BACK, TOLD, WAIT};
 use crate::reading::{said_by, told, word_of};
@@ -201,7 +201,7 @@ fn said_with(numbers: SaidImage, word: u16, reading: Option<i64>) -> SaidImage
 
 /// What was said last, once a sequence has said this.
 pub(crate) fn said_after(host: &GuardImage, is: &Sequence, act: Act, was: SaidImage) -> SaidImage
-    ensures { IsSaid host.now is.now act was result }
+    ensures { IsSaidLast host.now is.now act was result }
 {
     let numbers = numbers_said(is, act, was);
     match rail_said(act) {

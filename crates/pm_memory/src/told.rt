@@ -2,7 +2,7 @@
 
 ghost use Rattle.std.specs.Prelude.{◌≡◌, Some};
 ghost use Rattle.pm_host.specs.Told.{entry_told};
-ghost use Rattle.pm_memory.specs.Host.{TellsHost, IsSent, memory_number};
+ghost use Rattle.pm_memory.specs.Host.{TellsHost, IsHostSending, memory_number};
 ghost use Rattle.pm_host.specs.Image.{held, host_of};
 ghost use Rattle.pm_host.specs.Sound.{IsSound};
 
@@ -14,7 +14,7 @@ use pm_host::{Stage, Told};
 /// The frame of a host's open job, or nothing where none is open or the memory holds no host: the work of `pm_host_frame`.
 pub fn put_frame(host: &GuardImage, sending: &mut SendingImage) -> u8
     ensures number { result ≡ memory_number (host_of host.now.host) }
-    ensures frame { IsSent (host_of host.now.host) sending.new }
+    ensures frame { IsHostSending (host_of host.now.host) sending.new }
 {
     let Ok(stage) = host.host.read_stage() else {
         sending.clear();
@@ -30,7 +30,7 @@ pub fn put_frame(host: &GuardImage, sending: &mut SendingImage) -> u8
 /// The frame of a host's open job, which stands at this stage.
 pub(crate) fn send(host: &GuardImage, stage: Stage, sending: &mut SendingImage)
     requires sound { IsSound (held (Some stage) host.now.host.state) }
-    ensures { IsSent (Some (held (Some stage) host.now.host.state)) sending.new }
+    ensures { IsHostSending (Some (held (Some stage) host.now.host.state)) sending.new }
 {
     sending.put(host.host.state.address, &stage.message());
 }

@@ -1,8 +1,8 @@
 //! Words and microvolts, both ways.
 
 ghost use Rattle.std.specs.Prelude.{◌≡◌, ◌≢◌, ◌<◌, pos};
-ghost use Rattle.pm_num.specs.Ratio.{is_above as spec_is_above, micros, InBounds};
-ghost use Rattle.pm_memory.specs.Voltages.{floor_number, is_far as spec_is_far, IsCeil, IsFloor, IsNear, IsSmall};
+ghost use Rattle.pm_num.specs.Ratio.{is_above as spec_is_above, micros, InBounds, is_far as spec_is_far};
+ghost use Rattle.pm_memory.specs.Voltages.{floor_number, IsCeil, IsFloor, IsNear, IsSmall};
 
 use crate::numbers::ACCEPTED;
 use pm_num::{Frac, NumFault, micro};

@@ -4,9 +4,9 @@ use Rattle.pm_table.specs.declared.cell.Cell.{Cell}
 use Rattle.pm_table.specs.Cell.{same_cell, IsCell}
 use Rattle.pm_table.specs.declared.reg.Reg.{Reg}
 use Rattle.pm_table.specs.declared.cell.Cell.TheVariants.{Out, Protect}
-use Rattle.pm_model.specs.Settings.{Settings, Words, AreWords, word_at, with_word, with_outputs, words_of, HaveSameRegisters}
+use Rattle.pm_model.specs.Settings.{Settings, Words, AreWords, word_at, with_word, with_outputs, words_given_by, HaveSameRegisters}
 use Rattle.pm_model.specs.Commanded.{CommandAlike, Scale, commanded, greatest_value, least_value, is_above, is_cut}
-use Rattle.pm_model.specs.OrderMachine.{Step, IsAccepted, IsOwnWord, IsRun, machine_of}
+use Rattle.pm_model.specs.OrderMachine.{Step, IsAccepted, IsOwnWordOfMachine, IsRun, machine_of}
 
 -- the words of the cells of eight outputs are a map: a cell that was written has the new word and
 -- every other cell its old one; a write leaves a word for each cell; the same write again changes
@@ -24,11 +24,11 @@ pub record SettingsAreAMap : Type 0 where
       with_word (with_word words cell word) cell word ≡ with_word words cell word
   pub unchanged : (words : Words) (cell : Cell) → AreWords words → IsCell 8 cell →
       with_word words cell (word_at words cell) ≡ words
-  pub made : (word : Cell → ℕ) → AreWords (words_of word)
-      × ((cell : Cell) → IsCell 8 cell → word_at (words_of word) cell ≡ word cell)
+  pub made : (word : Cell → ℕ) → AreWords (words_given_by word)
+      × ((cell : Cell) → IsCell 8 cell → word_at (words_given_by word) cell ≡ word cell)
   pub one : (words : Words) (word : Cell → ℕ) → AreWords words →
       ((cell : Cell) → IsCell 8 cell → word_at words cell ≡ word cell) →
-      words ≡ words_of word
+      words ≡ words_given_by word
   pub whole : (words others : Words) → AreWords others → AreWords (with_outputs words others)
   pub outputs : (words others : Words) (output : ℕ) (register : Reg) → AreWords others → output < 8 →
       word_at (with_outputs words others) (Out output register) ≡ word_at others (Out output register)
@@ -63,10 +63,10 @@ pub record CommandsAreLimited : Type 0 where
 pub record OrdersStayInTheirCells : Type 0 where
   pub own : (start : Settings) (steps : List Step) (cell : Cell) →
       start.count ≤ 8 → AreWords start.words → IsRun start steps → IsCell start.count cell →
-      IsOwnWord start steps cell (word_at (machine_of start steps).words cell)
+      IsOwnWordOfMachine start steps cell (word_at (machine_of start steps).words cell)
   pub stored : (start : Settings) (steps : List Step) (cell : Cell) →
       start.count ≤ 8 → AreWords start.words → IsRun start steps → IsCell start.count cell →
-      IsOwnWord start steps cell (word_at (machine_of start steps).store cell)
+      IsOwnWordOfMachine start steps cell (word_at (machine_of start steps).store cell)
   pub protection : (start : Settings) (steps : List Step) →
       start.count ≤ 8 → AreWords start.words → IsRun start steps →
       word_at (machine_of start steps).store Protect ≡ word_at start.words Protect

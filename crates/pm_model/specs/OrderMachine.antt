@@ -43,23 +43,23 @@ store_taken words store (Some Store) = with_outputs store words
 store_taken words store (Some Restore) = store
 
 -- the machine as it starts, and what one step makes of it
-abbrev pub begun : Settings → Machine
-begun start =
+abbrev pub machine_at_start : Settings → Machine
+machine_at_start start =
     record { start = start; words = start.words; store = start.words; pending = None }
 
-abbrev pub stepped : Machine → Step → Machine
-stepped m (Accept job) = record m { pending = Some job }
-stepped m Take = record m {
+abbrev pub machine_stepped : Machine → Step → Machine
+machine_stepped m (Accept job) = record m { pending = Some job }
+machine_stepped m Take = record m {
   words = words_taken m.words m.store m.pending;
   store = store_taken m.words m.store m.pending;
 }
-stepped m End = record m { pending = None }
-stepped m Back = record m { words = restart_words m.store }
+machine_stepped m End = record m { pending = None }
+machine_stepped m Back = record m { words = restart_words m.store }
 
 -- the machine after some steps
 unfoldable pub machine_of : Settings → List Step → Machine
-machine_of start [] = begun start
-machine_of start (step ∷ before) = stepped (machine_of start before) step
+machine_of start [] = machine_at_start start
+machine_of start (step ∷ before) = machine_stepped (machine_of start before) step
 
 -- a job that can take: the cell of an order is there, and accepts its word
 abbrev pub CanTake : ℕ → Option PendingJob → Type 0
@@ -86,8 +86,8 @@ IsRun start [] = Unit {0}
 IsRun start (step ∷ before) = MayStep (machine_of start before) step × IsRun start before
 
 -- a cell's start word, or one that was accepted for this very cell
-abbrev pub IsOwnWord : Settings → List Step → Cell → ℕ → Type 0
-IsOwnWord start steps cell word =
+abbrev pub IsOwnWordOfMachine : Settings → List Step → Cell → ℕ → Type 0
+IsOwnWordOfMachine start steps cell word =
     (word ≡ word_at start.words cell) ⊎ Contains steps (Accept (Order cell word))
 
 -- the pending job is one that was accepted: it can take

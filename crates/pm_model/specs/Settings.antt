@@ -19,8 +19,8 @@ pub record Settings : Type 0 where
   pub words : Words
 
 -- the words that a function gives the cells
-unfoldable pub words_of : (Cell → ℕ) → Words
-words_of word = map (λ place. word (cell_in place)) (range_with_len 0 places)
+unfoldable pub words_given_by : (Cell → ℕ) → Words
+words_given_by word = map (λ place. word (cell_in place)) (range_with_len 0 places)
 
 -- there is a word for each cell
 unfoldable pub AreWords : Words → Type 0

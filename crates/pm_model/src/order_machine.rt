@@ -2,7 +2,7 @@
 ghost use Rattle.std.specs.Prelude.{◌≡◌, ◌↔◌, None, Some, true, IsTrue};
 ghost use Rattle.pm_table.specs.Cell.{cell_accepts, IsCell};
 ghost use Rattle.pm_model.specs.Settings.{word_at};
-ghost use Rattle.pm_model.specs.OrderMachine.{Accept, Take, End, Back, begun, stepped, CanTake};
+ghost use Rattle.pm_model.specs.OrderMachine.{Accept, Take, End, Back, machine_at_start, machine_stepped, CanTake};
 
 use crate::plain::Plain;
 use pm_table::Cell;
@@ -58,7 +58,7 @@ impl Model for OrderMachine {
 impl OrderMachine {
     /// The machine with these settings at its start and in its store, and no job.
     pub fn new(start: Plain) -> OrderMachine
-        ensures { result ≡ begun start }
+        ensures { result ≡ machine_at_start start }
     {
         OrderMachine {
             settings: start.copied(),
@@ -73,7 +73,7 @@ impl OrderMachine {
     pub fn accept(&mut self, job: PendingJob)
         requires free { self.old.pending ≡ None }
         requires can { CanTake self.old.start.count (Some job) }
-        ensures { self.new ≡ stepped self.old (Accept job) }
+        ensures { self.new ≡ machine_stepped self.old (Accept job) }
     {
         self.pending = Some(job);
     }
@@ -81,7 +81,7 @@ impl OrderMachine {
     /// The pending job takes: an order gives its cell its word, a store copies the outputs' words to the
     /// store, a restore brings them back. Nothing happens if none is pending.
     pub fn take(&mut self)
-        ensures { self.new ≡ stepped self.old Take }
+        ensures { self.new ≡ machine_stepped self.old Take }
     {
         match self.pending {
             Some(PendingJob::Order { cell, word }) => {
@@ -95,14 +95,14 @@ impl OrderMachine {
 
     /// No job is pending any more.
     pub fn end(&mut self)
-        ensures { self.new ≡ stepped self.old End }
+        ensures { self.new ≡ machine_stepped self.old End }
     {
         self.pending = None;
     }
 
     /// Each cell gets the word that a restart gives, that of the store. A pending job stays pending.
     pub fn back(&mut self)
-        ensures { self.new ≡ stepped self.old Back }
+        ensures { self.new ≡ machine_stepped self.old Back }
     {
         self.settings = self.store.copied();
     }

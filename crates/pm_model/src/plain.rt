@@ -103,7 +103,7 @@ impl Plain {
 
     /// The settings with these words, each at the place of its cell. None if a converter can't have them: the
     /// count isn't 1 to 8, or a cell that there is doesn't accept its word.
-    #[tactic(auto, using(crate::proofs::Accepted::accepted_settings))]
+    #[tactic(auto, using(crate::proofs::MapLaws::accepted_settings))]
     pub fn of(count: u8, words: [u16; Cell::PLACES]) -> Option<Plain>
         ensures { result ≡ settings_in count words }
     {
@@ -115,7 +115,7 @@ impl Plain {
     }
 
     /// The words, each at the place of its cell: [`Plain::of`] makes these settings of them and of their count.
-    #[tactic(auto, using(crate::proofs::Accepted::settings_again))]
+    #[tactic(auto, using(crate::proofs::MapLaws::settings_again))]
     pub fn words(&self) -> [u16; Cell::PLACES]
         ensures words { result ≡ self.now.words }
         ensures back { settings_in self.now.count result ≡ Some self.now }

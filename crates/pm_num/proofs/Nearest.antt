@@ -20,7 +20,7 @@ use Rattle.pm_num.specs.Lemmas.Spelling.{IsExponent-exponent, IsSpelling-word, O
 use Rattle.pm_num.specs.Nearest.{gap, IsNearest, IsValue, Near, one_rank, preference, linear11_rank}
 use Rattle.pm_num.specs.Ratio.{Ratio, AtMost, SameValue, IsBetween}
 use Rattle.pm_num.specs.Steps.{IsCapped, IsRaised, IsFloor, IsCeiling, IsRounded, Spacing, IsWithinPlaces, IsPlaceBelow, IsPlaceAbove}
-use Rattle.pm_num.specs.Steps.{at_place, IsPlace, direct_spacing, place_of, IsSpelling, IsFar, IsLarge, IsPreferred, IsPlaceFor}
+use Rattle.pm_num.specs.Steps.{at_place, IsPlace, direct_spacing, place_of_exponent, IsSpelling, IsFar, IsLarge, IsPreferred, IsPlaceFor}
 use Rattle.pm_num.specs.Value.{upper, lower, sign, signed, direct_value, direct_least, direct_greatest, exponent, mantissa, linear11_value}
 use Rattle.pm_num.specs.Value.{ulinear16_value}
 
@@ -637,8 +637,8 @@ large_lowest y z i j large s same =
     (cases_lt j i)
 
 -- An exponent whose place is nearer to 0 ranks first.
-rank_by_place : (e f : ℤ) → IsExponent e → IsExponent f → (place_of e < 16 → place_of f ≤ place_of e)
-    → (16 < place_of e → place_of e ≤ place_of f) → preference e ≤ preference f
+rank_by_place : (e f : ℤ) → IsExponent e → IsExponent f → (place_of_exponent e < 16 → place_of_exponent f ≤ place_of_exponent e)
+    → (16 < place_of_exponent e → place_of_exponent e ≤ place_of_exponent f) → preference e ≤ preference f
 rank_by_place (pos m) (pos n) h k low high =
     ⊎_elim (λ (less : 0 < m). let l = high (omega arith) in omega arith) (λ (none : m ≤ 0). omega arith) (cases_lt 0 m)
 rank_by_place (pos m) (negsuc n) h k low high =
@@ -651,24 +651,25 @@ rank_by_place (negsuc m) (negsuc n) h k low high =
     omega arith
 
 -- The preferred spelling of a number ranks first among its spellings.
-pub preferred_first : {e f : ℤ} (y z : ℤ) → IsExponent e → IsExponent f → IsPreferred y (place_of e) → IsSpelling z (place_of f)
-    → z *ℤ pos (2 ^ place_of f) ≡ y *ℤ pos (2 ^ place_of e) → preference e ≤ preference f
+pub preferred_first : {e f : ℤ} (y z : ℤ) → IsExponent e → IsExponent f → IsPreferred y (place_of_exponent e) →
+    IsSpelling z (place_of_exponent f)
+    → z *ℤ pos (2 ^ place_of_exponent f) ≡ y *ℤ pos (2 ^ place_of_exponent e) → preference e ≤ preference f
 preferred_first {e} {f} y z he hf p s same =
     rank_by_place e f he hf
-    (λ low. odd_highest y z (place_of e) (place_of f) (p.odd low) same)
-    (λ high. large_lowest y z (place_of e) (place_of f) (p.large high) s same)
+    (λ low. odd_highest y z (place_of_exponent e) (place_of_exponent f) (p.odd low) same)
+    (λ high. large_lowest y z (place_of_exponent e) (place_of_exponent f) (p.large high) s same)
 
 -- The number that a word spells, over 2^16.
 abbrev pub spelled : ℕ → ℤ
-spelled w = mantissa w *ℤ pos (2 ^ place_of (exponent w))
+spelled w = mantissa w *ℤ pos (2 ^ place_of_exponent (exponent w))
 
 -- A word that spells the rounded number, and prefers its spelling, is the nearest one.
 pub linear11-nearest : {k : ℤ} {w : ℕ} (x : Ratio) (p : ℕ) → 0 < x.den → IsPlaceFor x p
     → IsRounded (x.num *ℤ pos (2 ^ 16)) (pos (x.den * 2 ^ p)) k → w < 2 ^ 16 → spelled w ≡ k *ℤ pos (2 ^ p)
-    → IsPreferred (mantissa w) (place_of (exponent w)) → IsNearest linear11_value linear11_rank x w
+    → IsPreferred (mantissa w) (place_of_exponent (exponent w)) → IsNearest linear11_value linear11_rank x w
 linear11-nearest {k} {w} x p den place rounded word is preferred =
     let a = x.num *ℤ pos (2 ^ 16) in
-    let cover = λ (u : ℕ) (h : u < 2 ^ 16). Covers-word x p den place (mantissa u) (place_of (exponent u)) (IsSpelling-word u h) in
+    let cover = λ (u : ℕ) (h : u < 2 ^ 16). Covers-word x p den place (mantissa u) (place_of_exponent (exponent u)) (IsSpelling-word u h) in
     let e = ap (λ (z : ℤ). apart (2 ^ 16) x z) is in
     record {
       word = word;
@@ -740,19 +741,19 @@ halved y h p e =
     ∙ ap (λ (z : ℤ). z *ℤ pos (2 ^ p)) (sym e)
 
 -- The exponent that a place has.
-pub place_of-exponent : (e : ℤ) (p : ℕ) → e ≡ pos p -ℤ pos 16 → place_of e ≡ p
+pub place_of-exponent : (e : ℤ) (p : ℕ) → e ≡ pos p -ℤ pos 16 → place_of_exponent e ≡ p
 place_of-exponent (pos n) p h = omega (arith, ints)
 place_of-exponent (negsuc n) p h = omega (arith, ints)
 
 -- The word that was put together from the preferred spelling.
 pub linear11-found : {x : Ratio} {p : ℕ} {k y : ℤ} {i w : ℕ} → IsPlaceFor x p
-    → IsRounded (x.num *ℤ pos (2 ^ 16)) (pos (x.den * 2 ^ p)) k → w < 2 ^ 16 → mantissa w ≡ y → place_of (exponent w) ≡ i
+    → IsRounded (x.num *ℤ pos (2 ^ 16)) (pos (x.den * 2 ^ p)) k → w < 2 ^ 16 → mantissa w ≡ y → place_of_exponent (exponent w) ≡ i
     → y *ℤ pos (2 ^ i) ≡ k *ℤ pos (2 ^ p) → IsPreferred y i → IsNearest linear11_value linear11_rank x w
 linear11-found {x} {p} {k} {y} {i} {w} place rounded word is_y is_i same preferred =
     let spelled_is : spelled w ≡ y *ℤ pos (2 ^ i) =
-    ap (λ (z : ℤ). z *ℤ pos (2 ^ place_of (exponent w))) is_y ∙ ap (λ (n : ℕ). y *ℤ pos (2 ^ n)) is_i in
+    ap (λ (z : ℤ). z *ℤ pos (2 ^ place_of_exponent (exponent w))) is_y ∙ ap (λ (n : ℕ). y *ℤ pos (2 ^ n)) is_i in
     let q = subst (λ (n : ℕ). IsPreferred y n) (sym is_i) preferred in
-    let r = subst (λ (z : ℤ). IsPreferred z (place_of (exponent w))) (sym is_y) q in
+    let r = subst (λ (z : ℤ). IsPreferred z (place_of_exponent (exponent w))) (sym is_y) q in
     linear11-nearest x p place.den place rounded word (spelled_is ∙ same) r
 
 -- The LINEAR11 words of bounds.
@@ -823,7 +824,7 @@ ceiling_covers x p k h whole y i s at_least =
     (cases_lt i p)
 
 -- A word that spells a number and prefers its spelling ranks first among the words of its value.
-first_spelled : {w : ℕ} → w < 2 ^ 16 → IsPreferred (mantissa w) (place_of (exponent w)) → (u : ℕ) → u < 2 ^ 16
+first_spelled : {w : ℕ} → w < 2 ^ 16 → IsPreferred (mantissa w) (place_of_exponent (exponent w)) → (u : ℕ) → u < 2 ^ 16
     → SameValue (linear11_value u) (linear11_value w) → linear11_rank w ≤ linear11_rank u
 first_spelled {w} word preferred u h same =
     preferred_first (mantissa w) (mantissa u) (IsExponent-exponent w word) (IsExponent-exponent u h) preferred (IsSpelling-word u h)
@@ -833,19 +834,19 @@ first_spelled {w} word preferred u h same =
 pub record IsSpelled (p : ℕ) (k y : ℤ) (i w : ℕ) : Type 0 where
   pub word : w < 2 ^ 16
   pub mantissa_is : mantissa w ≡ y
-  pub place_is : place_of (exponent w) ≡ i
+  pub place_is : place_of_exponent (exponent w) ≡ i
   pub same : y *ℤ pos (2 ^ i) ≡ k *ℤ pos (2 ^ p)
   pub preferred : IsPreferred y i
 
 -- The word that was put together spells the number that the mantissa has at its place.
 spelled-is : {p : ℕ} {k y : ℤ} {i w : ℕ} → IsSpelled p k y i w → spelled w ≡ k *ℤ pos (2 ^ p)
 spelled-is {y = y} {w = w} is =
-    ap (λ (z : ℤ). z *ℤ pos (2 ^ place_of (exponent w))) is.mantissa_is ∙ ap (λ (n : ℕ). y *ℤ pos (2 ^ n)) is.place_is ∙ is.same
+    ap (λ (z : ℤ). z *ℤ pos (2 ^ place_of_exponent (exponent w))) is.mantissa_is ∙ ap (λ (n : ℕ). y *ℤ pos (2 ^ n)) is.place_is ∙ is.same
 
 -- The word that was put together prefers its spelling.
-spelled-preferred : {p : ℕ} {k y : ℤ} {i w : ℕ} → IsSpelled p k y i w → IsPreferred (mantissa w) (place_of (exponent w))
+spelled-preferred : {p : ℕ} {k y : ℤ} {i w : ℕ} → IsSpelled p k y i w → IsPreferred (mantissa w) (place_of_exponent (exponent w))
 spelled-preferred {y = y} {w = w} is =
-    subst (λ (z : ℤ). IsPreferred z (place_of (exponent w))) (sym is.mantissa_is)
+    subst (λ (z : ℤ). IsPreferred z (place_of_exponent (exponent w))) (sym is.mantissa_is)
     (subst (λ (n : ℕ). IsPreferred y n) (sym is.place_is) is.preferred)
 
 -- The word of the mantissa that was rounded down is the one that the number is rounded down to.
@@ -860,7 +861,7 @@ linear11-at_most {x} {p} {k} {y} {i} {w} place rounded is =
       word = is.word;
       reached = at_most_from_cross x (Over-linear11 w is.word) (omega (arith, ints));
       greatest = λ u h le.
-          let c = floor_covers x p k place whole (mantissa u) (place_of (exponent u)) (IsSpelling-word u h)
+          let c = floor_covers x p k place whole (mantissa u) (place_of_exponent (exponent u)) (IsSpelling-word u h)
           (cross_from_at_most x (Over-linear11 u h) le) in
           at_most_over (Over-linear11 u h) (Over-linear11 w is.word) (omega (arith, ints));
       spelling = first_spelled is.word (spelled-preferred is);
@@ -878,7 +879,7 @@ linear11-at_least {x} {p} {k} {y} {i} {w} place rounded is =
       word = is.word;
       reached = at_least_from_cross x (Over-linear11 w is.word) (omega (arith, ints));
       least = λ u h le.
-          let c = ceiling_covers x p k place whole (mantissa u) (place_of (exponent u)) (IsSpelling-word u h)
+          let c = ceiling_covers x p k place whole (mantissa u) (place_of_exponent (exponent u)) (IsSpelling-word u h)
           (cross_from_at_least x (Over-linear11 u h) le) in
           at_most_over (Over-linear11 w is.word) (Over-linear11 u h) (omega (arith, ints));
       spelling = first_spelled is.word (spelled-preferred is);

@@ -78,9 +78,9 @@ pub record IsSpacing (den step offset : ℤ) : Type 0 where
   pub offset_small : unsigned_abs offset ≤ 2 ^ 55
 
 -- LINEAR11: an exponent counts from -16, a place from 0. The number is y * 2^place / 2^16.
-abbrev pub place_of : ℤ → ℕ
-place_of (pos n) = n + 16
-place_of (negsuc n) = 15 - n
+abbrev pub place_of_exponent : ℤ → ℕ
+place_of_exponent (pos n) = n + 16
+place_of_exponent (negsuc n) = 15 - n
 
 -- A mantissa and a place that a word has.
 pub record IsSpelling (y : ℤ) (p : ℕ) : Type 0 where

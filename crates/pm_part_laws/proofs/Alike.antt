@@ -14,19 +14,20 @@ use Rattle.pm_model.specs.Settings.{Words, word_at}
 use Rattle.pm_device.specs.{Held.Held, Laws.WritesReachOneCell, Reply.reply_of, declared.config.Config.Config}
 use Rattle.pm_device.specs.{declared.converter.Ending.Ending}
 use Rattle.pm_device.specs.Effect as device
-use Rattle.pm_device.specs.History.{after as device_after_outcome, next as device_next}
+use Rattle.pm_device.specs.History.{after_outcome as device_after_outcome, device_next}
 use Rattle.pm_device.specs.declared.converter.Ending.TheVariants.{Restart, Stop}
-use Rattle.pm_host.specs.{Frames.frames_left, Messages.cell_read, Now.now as host_now, Question.question_message}
+use Rattle.pm_host.specs.{Frames.frames_left, Messages.cell_read, Now.host_now, Question.question_message}
 use Rattle.pm_host.specs.{declared.job.JobEnd.JobEnd, declared.stage.Stage.Stage}
 use Rattle.pm_host.specs.Laws.{FramesAreNamed, TranscriptsAreFollowed}
-use Rattle.pm_host.specs.Summary.{Summary, sending_in, start, next as host_next, step_of, stage_message}
+use Rattle.pm_host.specs.Summary.{Summary, sending_in, start, host_next, step_of, stage_message}
 use Rattle.pm_host.specs.Transcript as host
 use Rattle.pm_host.specs.Transcript.{Entry, Accepted, Got, Job}
 use Rattle.pm_host.specs.declared.question.Question.TheVariants.{Word, Mode, Coefficients}
 use Rattle.pm_host.specs.declared.stage.Stage.TheVariants.{Asks, Reads, Sends, Writes}
 use Rattle.pm_world.specs.{Laws.LivesAreFollowed, Lemmas.Orders.told-asked, Lived.IsLived, Retelling.WasOrdered, Setup.setup_of}
 use Rattle.pm_world.specs.{declared.event.Arrival.Arrival, declared.event.Back.Back, declared.event.Event.Event}
-use Rattle.pm_world.specs.GoodBus.{IsRead, IsWritten, comes_whole, delivers_whole, held_after, is_beside, is_reading, stage_after}
+use Rattle.pm_world.specs.GoodBus.{IsRead, IsWritten, comes_whole, delivers_whole, word_held_after, is_beside, is_reading_change}
+use Rattle.pm_world.specs.GoodBus.{stage_after}
 use Rattle.pm_world.specs.GoodTurns.{ComeWhole, ComesWhole, OpenJobsEnd, Took, Turn, good_end, good_end_by, mode_turn, read_turn, turn_of}
 use Rattle.pm_world.specs.Legal.{answer_in, back_bytes, ending_of, frame_of, heard_bytes, heard_ending, is_heard_whole, is_legal_hearing}
 use Rattle.pm_world.specs.Legal.{is_legal_return}
@@ -34,20 +35,20 @@ use Rattle.pm_world.specs.Lemmas.{entries-more, now-config}
 use Rattle.pm_world.specs.Life.{life, now, state_of}
 use Rattle.pm_world.specs.Parts.{IsPart, IsReached, PartsAreReached, StoredConfigsStartSo, stored_config}
 use Rattle.pm_world.specs.State.{HasWord, Share, State, answer_to, asked, delivery_cause, device_after, delivered, end_after, event_cause}
-use Rattle.pm_world.specs.State.{exchange_cause, exchanged, host_after, next, nothing, rule, share_of, tells}
+use Rattle.pm_world.specs.State.{exchange_cause, exchanged, host_after, next, no_share, rule, share_of, tells}
 use Rattle.pm_world.specs.declared.cause.Cause.TheVariants.{NotBetrayed, WrongKind}
 use Rattle.pm_world.specs.declared.event.Arrival.TheVariants as arrival
 use Rattle.pm_world.specs.declared.event.Back.TheVariants as back
 use Rattle.pm_world.specs.declared.event.Event.TheVariants.{Order, OrderMicro, Check, Learn, Clear, Store, Restore, Deliver, Finish}
 use Rattle.pm_world.specs.declared.event.Event.TheVariants.{Exchange, RestartDevice, RestartHost, Reading}
-use Rattle.pm_part_laws.specs.Moves.{words_at}
-use Rattle.pm_part_laws.specs.Alike.{SameSettingsLiveAlike, back_of, came, event_like, narrow, renewed, LivesAlike}
-use Rattle.pm_part_laws.specs.Happenings.{Happening, Happens, Hears, MayAllHappen, begun, beside, told}
+use Rattle.pm_part_laws.specs.Moves.{words_at_beside}
+use Rattle.pm_part_laws.specs.Alike.{SameSettingsLiveAlike, back_of, came, event_like, narrow, with_host_restart, LivesAlike}
+use Rattle.pm_part_laws.specs.Happenings.{Happening, Happens, Hears, MayAllHappen, begun_beside, beside, entries_beside}
 use Rattle.pm_part_laws.specs.Lemmas.Narrow.{at, at-more, at-since, config, earlier-may, modes-at, since}
 use Rattle.pm_part_laws.specs.Lemmas.Pageless.{IsHeardPageless, after-same, answer_of, comes-same, own-same, request-pageless, settings-of}
 use Rattle.pm_part_laws.specs.Lemmas.Pageless.{write-pageless, heard-so}
 use Rattle.pm_part_laws.specs.OpenJobs.{ComeWholeBeside, ComesWholeBeside, IsReadBeside, IsWrittenBeside, OpenJobsEndBeside, delivers}
-use Rattle.pm_part_laws.specs.OpenJobs.{good_end_at, is_aside, is_look, turn_at}
+use Rattle.pm_part_laws.specs.OpenJobs.{good_end_at, is_beside_or_heard, is_reading_or_heard, turn_at}
 use Rattle.pm_part_laws.specs.Settings.{HaveSameSettings, KeepsSettings, modes_of, moved}
 
 -- A life beside a part, with reads between, as one in the narrow sense.
@@ -184,7 +185,7 @@ sends-request laws {host = host} is message sends reads = record {
 -- ---- what is heard depends on no PAGE ----
 
 job-pageless : (addr : ℕ) (job : Option Job) →
-    IsHeardPageless addr (option_map_or (λ j. tells (Accepted j)) job nothing).heard
+    IsHeardPageless addr (option_map_or (λ j. tells (Accepted j)) job no_share).heard
 job-pageless addr None = tt
 job-pageless addr (Some job) = tt
 
@@ -389,11 +390,11 @@ keeps laws {one = one} held bytes ending keeps' same = record {
 
 record All (config : Config) (passes : ℕ) (before : List Event) (held : Held) (happened : List Happening) : Type 0 where
   is : IsOf config passes (narrow held passes happened ++ before) (beside held passes happened)
-  told_is : (life config passes (narrow held passes happened ++ before)).entries ≡ told held passes happened ++ (life config passes before).entries
+  told_is : (life config passes (narrow held passes happened ++ before)).entries ≡ entries_beside held passes happened ++ (life config passes before).entries
 
-all : Given → (config : Config) (passes : ℕ) (before : List Event) (held : Held) → IsOf config passes before (begun held passes) →
+all : Given → (config : Config) (passes : ℕ) (before : List Event) (held : Held) → IsOf config passes before (begun_beside held passes) →
     (happened : List Happening) → MayAllHappen held passes happened → All config passes before held happened
-unfolding beside narrow told
+unfolding beside narrow entries_beside
 all laws config passes before held first [] may = record { is = first; told_is = refl }
 all laws config passes before held first (Happens event ∷ happened) may =
     let so = all laws config passes before held first happened may.1 in
@@ -404,7 +405,8 @@ all laws config passes before held first (Happens event ∷ happened) may =
       is = went.is;
       told_is = entries-more config passes events (event_like s event)
           ∙ (ap₂ (λ (t : Option Entry) (l : List Entry). option_to_list t ++ l) went.tells_same so.told_is
-          ∙ sym (append_assoc (option_to_list (share_of s event).told) (told held passes happened) (life config passes before).entries));
+          ∙ sym (append_assoc (option_to_list (share_of s event).told) (entries_beside held passes happened)
+          (life config passes before).entries));
     }
 all laws config passes before held first (Hears bytes ending ∷ happened) may =
     let so = all laws config passes before held first happened may.1 in
@@ -421,12 +423,12 @@ all laws config passes before held first (Hears bytes ending ∷ happened) may =
 
 -- a life that led to a part, and whose host has just started again
 first-life : Given → (held : Held) (passes : ℕ) (earlier : List Event) → IsPart held.config held.words held.store →
-    IsReached held.config passes held.words held.store (renewed earlier) →
-    IsOf (stored_config held.config held.store) passes (renewed earlier) (begun held passes)
+    IsReached held.config passes held.words held.store (with_host_restart earlier) →
+    IsOf (stored_config held.config held.store) passes (with_host_restart earlier) (begun_beside held passes)
 unfolding next step_of
 first-life laws held passes earlier part is =
     let config = stored_config held.config held.store in
-    let events = renewed earlier in
+    let events = with_host_restart earlier in
     let same : config ≡ (now config passes events).device.config = sym (now-config config passes events) in
     record {
       lived = is.lived;
@@ -440,11 +442,11 @@ first-life laws held passes earlier part is =
 
 -- a restart of the host leaves a life that led to a part one
 renewed-reached : Given → (config : Config) (passes : ℕ) (words store : Words) (earlier : List Event) →
-    IsReached config passes words store earlier → IsReached config passes words store (renewed earlier)
+    IsReached config passes words store earlier → IsReached config passes words store (with_host_restart earlier)
 unfolding next host_next
 renewed-reached laws config passes words store earlier is =
     let stored = stored_config config store in
-    let lived : IsLived stored passes (renewed earlier) = record {
+    let lived : IsLived stored passes (with_host_restart earlier) = record {
       sound = is.lived.sound;
       made = is.lived.made;
       legal = (record { free = refl; word = tt }, is.lived.legal);
@@ -460,11 +462,11 @@ renewed-reached laws config passes words store earlier is =
     }
   where
     older : (output : ℕ) (register : Reg) (word : ℕ) (later : List Event) →
-        WasOrdered (stored_config config store) passes (renewed earlier) (Out output register) word →
+        WasOrdered (stored_config config store) passes (with_host_restart earlier) (Out output register) word →
         WasOrdered (stored_config config store) passes earlier (Out output register) word
     older output register word later was = go was.later was.is
       where
-        go : (l : List Event) → renewed earlier ≡ l ++ was.event ∷ was.before →
+        go : (l : List Event) → with_host_restart earlier ≡ l ++ was.event ∷ was.before →
             WasOrdered (stored_config config store) passes earlier (Out output register) word
         go [] at =
             let here : was.event ≡ RestartHost = cc in
@@ -489,7 +491,7 @@ live-alike laws held passes part spelled made =
         coefficients = spelled.coefficients;
       };
       like = λ happened may.
-          let so = all laws config passes (renewed found.0) held first happened may in
+          let so = all laws config passes (with_host_restart found.0) held first happened may in
           record {
             lived = so.is.lived;
             host = so.is.host_is;
@@ -500,7 +502,7 @@ live-alike laws held passes part spelled made =
             ended = so.is.ended;
           };
       tells = λ happened event may.
-          let so = all laws config passes (renewed found.0) held first happened may.1 in
+          let so = all laws config passes (with_host_restart found.0) held first happened may.1 in
           (goes laws (beside held passes happened) so.is event may.0.0 may.0.1).tells_same;
     }
 
@@ -544,7 +546,7 @@ whole-same one other frame way so so' alike came-is whole =
 
 -- ---- The same of events and of happenings ----
 
-reading-like : (s : State) (event : Event) → is_reading (event_like s event) ≡ is_reading event
+reading-like : (s : State) (event : Event) → is_reading_change (event_like s event) ≡ is_reading_change event
 reading-like s (Exchange way so) = refl
 reading-like s event = refl
 
@@ -557,17 +559,17 @@ delivers-like s frame (Exchange way so) = refl
 delivers-like s frame event = refl
 
 -- what is looked at tells no host anything
-unmoved : (s : State) (event : Event) → is_reading event ≡ true → (next s event).host ≡ s.host
+unmoved : (s : State) (event : Event) → is_reading_change event ≡ true → (next s event).host ≡ s.host
 unfolding next
 unmoved s (Reading output code word) is = refl
 unmoved s event is = cc
 
-looks-keep : (held : Held) (passes : ℕ) (looks before : List Happening) → list_all is_look looks ≡ true →
+looks-keep : (held : Held) (passes : ℕ) (looks before : List Happening) → list_all is_reading_or_heard looks ≡ true →
     (beside held passes (looks ++ before)).host ≡ (beside held passes before).host
 unfolding beside
 looks-keep held passes [] before all = refl
 looks-keep held passes (Happens event ∷ looks) before all =
-    let parts = both-true (is_reading event) (list_all is_look looks) all in
+    let parts = both-true (is_reading_change event) (list_all is_reading_or_heard looks) all in
     unmoved (beside held passes (looks ++ before)) event parts.0 ∙ looks-keep held passes looks before parts.1
 looks-keep held passes (Hears bytes ending ∷ looks) before all = looks-keep held passes looks before all
 
@@ -578,13 +580,15 @@ module _ (held : Held) (passes : ℕ) (alike : LivesAlike held passes) where
   abbrev events : List Happening → List Event
   events happened = at held passes alike happened
 
-  looks-are : (looks before : List Happening) → list_all is_reading (since held passes alike looks before) ≡ list_all is_look looks
+  looks-are : (looks before : List Happening) → list_all is_reading_change (since held passes alike looks before)
+      ≡ list_all is_reading_or_heard looks
   looks-are [] before = refl
   looks-are (Happens event ∷ looks) before =
       ap₂ (λ (a b : Bool). a && b) (reading-like (beside held passes (looks ++ before)) event) (looks-are looks before)
   looks-are (Hears bytes ending ∷ looks) before = looks-are looks before
 
-  asides-are : (between before : List Happening) → list_all is_beside (since held passes alike between before) ≡ list_all is_aside between
+  asides-are : (between before : List Happening) → list_all is_beside (since held passes alike between before)
+      ≡ list_all is_beside_or_heard between
   asides-are [] before = refl
   asides-are (Happens event ∷ between) before =
       ap₂ (λ (a b : Bool). a && b) (beside-like (beside held passes (between ++ before)) event) (asides-are between before)
@@ -744,7 +748,7 @@ module _ (held : Held) (passes : ℕ) (alike : LivesAlike held passes) where
 
   -- what a frame makes of a job, and how it ends
   words-are : (happened : List Happening) → MayAllHappen held passes happened → (cell : Cell) →
-      held_after c passes (events happened) cell ≡ word_at (words_at held passes happened) cell
+      word_held_after c passes (events happened) cell ≡ word_at (words_at_beside held passes happened) cell
   words-are happened may cell = ap (λ (w : Words). word_at w cell) (alike.like happened may).words
 
   turn-is : (before : List Happening) (acked : Bool) (stage : Stage) → MayAllHappen held passes before →

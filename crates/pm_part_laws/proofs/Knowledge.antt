@@ -10,8 +10,8 @@ use Rattle.pm_table.specs.declared.cell.Cell.TheVariants.{Out, Protect}
 use Rattle.pm_model.specs.declared.order_machine.PendingJob.{PendingJob}
 use Rattle.pm_model.specs.OrderMachine.{store_taken, words_taken}
 use Rattle.pm_model.specs.Settings.{Words, word_at, with_outputs}
-use Rattle.pm_device.specs.{Held.Held, Start.start_of, declared.config.Config.Config}
-use Rattle.pm_device.specs.History.{after as device_after_outcome, next as device_next}
+use Rattle.pm_device.specs.{Held.Held, Start.start_with_words, declared.config.Config.Config}
+use Rattle.pm_device.specs.History.{after_outcome as device_after_outcome, device_next}
 use Rattle.pm_host.specs.{Marks.marks, Possible.is_possible, Refusals.IsSetup, Transcript.Entry}
 use Rattle.pm_host.specs.Summary.{Summary, format_at, standing_at, possible_at}
 use Rattle.pm_host.specs.Transcript as host
@@ -30,15 +30,15 @@ use Rattle.pm_world.specs.Uncertainty.{AreOpen, ArePossible, Choice, Leaves, due
 use Rattle.pm_world.specs.declared.event.Event.TheVariants.{OrderMicro, Deliver, RestartDevice}
 use Rattle.pm_part_laws.specs.{Exact.PossibleIsExact, Formats.FormatsAreTrue, Lemmas.Made.made-so, Parts.PartsStayParts}
 use Rattle.pm_part_laws.specs.Alike.{LivesAlike, SameSettingsLiveAlike, event_like}
-use Rattle.pm_part_laws.specs.Answers.{has_read, restarted_since, surprises_by}
-use Rattle.pm_part_laws.specs.Happenings.{told, Happening, Happens, beside, Hears, IsLifeBeside, MayAllHappen}
-use Rattle.pm_part_laws.specs.HonestOrders.{HonestOrdersGoThrough, events_in, honest_frames}
+use Rattle.pm_part_laws.specs.Answers.{host_has_read_beside, restarted_since_beside, surprises_by_beside}
+use Rattle.pm_part_laws.specs.Happenings.{entries_beside, Happening, Happens, beside, Hears, IsLifeBeside, MayAllHappen}
+use Rattle.pm_part_laws.specs.HonestOrders.{HonestOrdersGoThrough, events_among, honest_frames}
 use Rattle.pm_part_laws.specs.Knowledge.{ConfirmedIsHeld, PossibleIsHeld, SeenIsTrue}
 use Rattle.pm_part_laws.specs.Lemmas.Narrow.{at, config, host-at, modes-at, newest-at, shape-at, asked-at, at-event, at-more, at-since}
 use Rattle.pm_part_laws.specs.Lemmas.Narrow.{earlier-may, later-begins, later-renews, likely, since, between-at, read-at, since-at}
 use Rattle.pm_part_laws.specs.Lemmas.Narrow.{surprises-at, later-restarts, pending-at, since-append}
 use Rattle.pm_part_laws.specs.Moves.{DiffersNeverTook, JobTakes, MovesBy, PartsMoveByTheOpenJob, StoresBy, came_back, ordered, restored}
-use Rattle.pm_part_laws.specs.Moves.{store_at, stored, words_at}
+use Rattle.pm_part_laws.specs.Moves.{store_at_beside, stored, words_at_beside}
 
 -- What a host calls possible beside a part is exact, by the life that is like what happened there.
 
@@ -81,7 +81,7 @@ leaves-like held passes alike entries chosen start events is = record {
 start-at : (held : Held) (passes : ℕ) (alike : LivesAlike held passes) (words : Choice) →
     witness_start (config held passes alike) words ≡ witness_start held.config words
 start-at held passes alike words = ap (λ (m : List ℕ). record held.config {
-  starts = map (λ output. start_of (slice_index m output) (λ register. words (Out output register))) (range_with_len 0 8);
+  starts = map (λ output. start_with_words (slice_index m output) (λ register. words (Out output register))) (range_with_len 0 8);
   protect = 0;
 }) (modes-at held passes alike)
 
@@ -92,7 +92,7 @@ exact alike law = record {
       let like = all.like happened is.may in
       let c = config held passes all in
       let events = at held passes all happened in
-      let entries = since_restart (told held passes happened) in
+      let entries = since_restart (entries_beside held passes happened) in
       let setup = setup_of held.config passes in
       let same = newest-at held passes all happened is.may in
       let whole = law.witness c passes events chosen like.lived (host-at held passes all happened ∙ steady)
@@ -109,15 +109,16 @@ exact alike law = record {
       subst (λ (h : Summary). ArePossible held.config h chosen) like.host
       (law.only (config held passes all) passes (at held passes all happened) retold chosen other like.lived
       (subst (λ (l : List Entry). Leaves (config held passes all) passes l chosen other retold) (sym (newest-at held passes all happened is.may))
-      (leaves-like held passes all (since_restart (told held passes happened)) chosen other retold leaves)));
+      (leaves-like held passes all (since_restart (entries_beside held passes happened)) chosen other retold leaves)));
 }
 
 -- The formats that a host learned beside a part, by the life that is like what happened there.
 
 -- what one more event tells
 told-more : (held : Held) (passes : ℕ) (before : List Happening) (event : Event) →
-    told held passes (Happens event ∷ before) ≡ option_to_list (share_of (beside held passes before) event).told ++ told held passes before
-unfolding told
+    entries_beside held passes (Happens event ∷ before) ≡ option_to_list (share_of (beside held passes before) event).told
+    ++ entries_beside held passes before
+unfolding entries_beside
 told-more held passes before event = refl
 
 -- Formats over lives are so beside a part.
@@ -169,7 +170,7 @@ formats alike law = record {
         nearest = subst (λ (s : Shape). nearest_word (shape_value s) (shape_rank s) (micros microvolts) ≡ Some found.word)
             (shape-at held passes all (output_of cell)) found.nearest;
         ordered = told-more held passes before (OrderMicro cell microvolts)
-            ∙ ap (λ (o : Option host.Entry). option_to_list o ++ told held passes before)
+            ∙ ap (λ (o : Option host.Entry). option_to_list o ++ entries_beside held passes before)
             (sym (all.tells before (OrderMicro cell microvolts) is.may)
             ∙ newest (share_of (now c passes past) (OrderMicro cell microvolts)).told (life c passes past).entries
             (host.Accepted (host.Order cell found.word)) (sym (entries-more c passes past (OrderMicro cell microvolts)) ∙ found.ordered));
@@ -201,8 +202,8 @@ delivered-plain : (arrivals : List Arrival) → ArePlain (map (λ arrival. Deliv
 delivered-plain [] = tt
 delivered-plain (arrival ∷ arrivals) = (λ s. refl, delivered-plain arrivals)
 
-since-plain : (held : Held) (passes : ℕ) (alike : LivesAlike held passes) (later before : List Happening) → ArePlain (events_in later) →
-    since held passes alike later before ≡ events_in later
+since-plain : (held : Held) (passes : ℕ) (alike : LivesAlike held passes) (later before : List Happening) → ArePlain (events_among later) →
+    since held passes alike later before ≡ events_among later
 since-plain held passes alike [] before plain = refl
 since-plain held passes alike (Happens event ∷ later) before plain =
     ap₂ (λ (e : Event) (l : List Event). e ∷ l) (plain.0 (beside held passes (later ++ before))) (since-plain held passes alike later before plain.1)
@@ -278,8 +279,8 @@ seen alike law lists = record {
 }
   where
     surprised : (held : Held) (passes : ℕ) (later before : List Happening) (one : Happening) (cell : Cell) →
-        IsLifeBeside held passes (later ++ one ∷ before) → surprises_by held passes cell before one ≡ true →
-        (has_read held passes cell before ≡ true) × (restarted_since held passes cell before ≡ true)
+        IsLifeBeside held passes (later ++ one ∷ before) → surprises_by_beside held passes cell before one ≡ true →
+        (host_has_read_beside held passes cell before ≡ true) × (restarted_since_beside held passes cell before ≡ true)
     surprised held passes later before (Hears bytes ending) cell is surprise = cc
     surprised held passes later before (Happens event) cell is surprise =
         let all = alike held passes is.part is.spelled is.made in
@@ -299,10 +300,10 @@ module _ (held : Held) (passes : ℕ) (alike : LivesAlike held passes) (before :
   abbrev past : List Event
   past = at held passes alike before
 
-  words-are : world_words here passes past ≡ words_at held passes before
+  words-are : world_words here passes past ≡ words_at_beside held passes before
   words-are = (alike.like before may).words
 
-  store-is : world_store here passes past ≡ store_at held passes before
+  store-is : world_store here passes past ≡ store_at_beside held passes before
   store-is = (alike.like before may).store
 
   -- the open job takes in both
@@ -358,15 +359,15 @@ parts-move alike law = record {
   where
     moved : (held : Held) (passes : ℕ) (before : List Happening) (one : Happening) (cell : Cell) →
         IsLifeBeside held passes (one ∷ before) → IsCell held.config.count cell →
-        (word_at (words_at held passes (one ∷ before)) cell ≡ word_at (words_at held passes before) cell)
-        ⊎ MovesBy held passes before cell (word_at (words_at held passes (one ∷ before)) cell) one
+        (word_at (words_at_beside held passes (one ∷ before)) cell ≡ word_at (words_at_beside held passes before) cell)
+        ⊎ MovesBy held passes before cell (word_at (words_at_beside held passes (one ∷ before)) cell) one
     moved held passes before (Hears bytes ending) cell is there = inl (ap (λ (w : Words). word_at w cell) is.may.0.words)
     moved held passes before (Happens event) cell is there =
         let all = alike held passes is.part is.spelled is.made in
         let like = all.like (Happens event ∷ before) is.may in
         let c = config held passes all in
         let past = at held passes all before in
-        let new : world_words c passes (likely held passes all before event ∷ past) ≡ words_at held passes (Happens event ∷ before) =
+        let new : world_words c passes (likely held passes all before event ∷ past) ≡ words_at_beside held passes (Happens event ∷ before) =
         ap (world_words c passes) (sym (at-more held passes all event before)) ∙ like.words in
         elim ((law c passes (at held passes all (Happens event ∷ before)) like.lived).moves [] past (likely held passes all before event) cell
         (at-more held passes all event before) there) [
@@ -377,14 +378,14 @@ parts-move alike law = record {
         ]
 
     stored-so : (held : Held) (passes : ℕ) (before : List Happening) (one : Happening) → IsLifeBeside held passes (one ∷ before) →
-        (store_at held passes (one ∷ before) ≡ store_at held passes before) ⊎ StoresBy held passes before (store_at held passes (one ∷ before)) one
+        (store_at_beside held passes (one ∷ before) ≡ store_at_beside held passes before) ⊎ StoresBy held passes before (store_at_beside held passes (one ∷ before)) one
     stored-so held passes before (Hears bytes ending) is = inl is.may.0.store
     stored-so held passes before (Happens event) is =
         let all = alike held passes is.part is.spelled is.made in
         let like = all.like (Happens event ∷ before) is.may in
         let c = config held passes all in
         let past = at held passes all before in
-        let new : world_store c passes (likely held passes all before event ∷ past) ≡ store_at held passes (Happens event ∷ before) =
+        let new : world_store c passes (likely held passes all before event ∷ past) ≡ store_at_beside held passes (Happens event ∷ before) =
         ap (world_store c passes) (sym (at-more held passes all event before)) ∙ like.store in
         elim ((law c passes (at held passes all (Happens event ∷ before)) like.lived).stores [] past (likely held passes all before event)
         (at-more held passes all event before)) [

@@ -20,10 +20,12 @@ use Rattle.pm_host.specs.Transcript.{Got, Restarted}
 use Rattle.pm_host.specs.declared.command.Command.TheVariants.{StoreUserAll, RestoreUserAll}
 use Rattle.pm_host.specs.declared.knowledge.Standing.TheVariants.{Confirmed, Unknown}
 use Rattle.pm_part_laws.specs.LateBelow.{Below}
-use Rattle.pm_part_laws.specs.Late.{Waiting, MayWait, all_longer, frames_in, sent_in, waiting_at, waiting_without, sent_by, Both, Event}
+use Rattle.pm_part_laws.specs.Late.{Waiting, MayWait, all_longer, frames_in, pending_sent_in, waiting_at, waiting_without, pending_sent_by}
+use Rattle.pm_part_laws.specs.Late.{Both, Event}
 use Rattle.pm_part_laws.specs.Late.{Hears, Takes, Restarts, Tells, MayComeEach, both_after, IsOwn, was_held, was_stored, was_sent, IsRecent}
-use Rattle.pm_part_laws.specs.Late.{IsTrueAnswer, answers, frames_to_answer, is_good_for, restarted_since, writes}
+use Rattle.pm_part_laws.specs.Late.{IsTrueAnswer, answers_late, frames_to_answer, restarted_since_late, gives_cell_word}
 use Rattle.pm_part_laws.specs.LateWords.{LateWordsAreOwn, LateWordsWerePossible, LateConfirmationsAreHeld}
+use Rattle.pm_world.specs.Confirmed.{is_good_for}
 
 -- What waits in the queue was sent, as many frames ago as it counts.
 
@@ -32,7 +34,7 @@ pub record SentAgo (frames : ℕ) (setup : Setup) (entries : List Entry) (job : 
   pub since : List Entry
   pub moment : List Entry
   pub is : entries ≡ since ++ moment
-  pub sent : sent_in setup moment ≡ Some job
+  pub sent : pending_sent_in setup moment ≡ Some job
   pub few : frames_in since ≤ frames
 
 -- each write of a queue was sent as many frames ago as it counts, and counts no more than it may
@@ -46,7 +48,7 @@ AreQueued frames setup entries (waits ∷ rest) = IsQueued frames setup entries 
 
 -- what is being sent is queued as it's heard
 pub hears-queued : (frames : ℕ) (setup : Setup) (entries : List Entry) (queue : List Waiting) (job : Option PendingJob) →
-    sent_in setup entries ≡ job → AreQueued frames setup entries queue →
+    pending_sent_in setup entries ≡ job → AreQueued frames setup entries queue →
     AreQueued frames setup entries (option_to_list (option_map (λ j. record { job = j; frames = 0 }) job) ++ queue)
 hears-queued frames setup entries queue None e are = are
 hears-queued frames setup entries queue (Some job) e are = (
@@ -124,7 +126,7 @@ tells-queued frames setup entries entry queue may are = go (is_of_frame entry) r
 
 -- an order whose write is being sent is open
 pub order-open : (job : Option Job) (told : List Entry) (cell : Cell) (word : ℕ) →
-    sent_by job told ≡ Some (pending.Order cell word) → job ≡ Some (Order cell word)
+    pending_sent_by job told ≡ Some (pending.Order cell word) → job ≡ Some (Order cell word)
 order-open None told cell word e = cc
 order-open (Some (Order other given)) told cell word e = go (is_write_turn told) e where
   go : (b : Bool) → cond b (Some (pending.Order other given)) None ≡ Some (pending.Order cell word) →
@@ -138,7 +140,8 @@ order-open (Some (Send RestoreUserAll)) told cell word e = cc
 order-open (Some (Send command)) told cell word e = cc
 
 -- a restore whose frame is being sent is open
-pub restore-open : (job : Option Job) (told : List Entry) → sent_by job told ≡ Some pending.Restore → job ≡ Some (Send RestoreUserAll)
+pub restore-open : (job : Option Job) (told : List Entry) → pending_sent_by job told ≡ Some pending.Restore → job
+    ≡ Some (Send RestoreUserAll)
 restore-open None told e = cc
 restore-open (Some (Order other given)) told e = go (is_write_turn told) e where
   go : (b : Bool) → cond b (Some (pending.Order other given)) None ≡ Some pending.Restore →
@@ -261,7 +264,7 @@ stands laws frames setup held stored are have (Hears ∷ before) came =
       told = so_far.told;
       words = so_far.words;
       store = so_far.store;
-      queued = hears-queued frames setup both.entries both.waiting (sent_in setup both.entries) refl so_far.queued;
+      queued = hears-queued frames setup both.entries both.waiting (pending_sent_in setup both.entries) refl so_far.queued;
     }
 stands laws frames setup held stored are have (Takes place ∷ before) came =
     let both = both_after setup held stored before in
@@ -287,7 +290,7 @@ stands laws frames setup held stored are have (Tells entry ∷ before) came =
 
 -- the job that was sent at a moment is open there
 sent-there : Below → (setup : Setup) (since moment : List Entry) (cell : Cell) (word : ℕ) → IsSetup setup →
-    AreTold setup (since ++ moment) → sent_in setup moment ≡ Some (pending.Order cell word) → IsCell 8 cell
+    AreTold setup (since ++ moment) → pending_sent_in setup moment ≡ Some (pending.Order cell word) → IsCell 8 cell
 sent-there laws setup since moment cell word made told sent =
     IsCell-eight setup.outputs cell made.few_outputs (laws.orders.there setup moment cell word made (told-before setup since moment told)
     (order-open (open_job setup moment) (told_since moment) cell word sent))
@@ -300,7 +303,7 @@ by-order P false word old new kept = kept
 -- What a job that was sent leaves a cell: a fact that holds of the word that the cell had, and of one that the job gives it.
 pub taken-word : Below → (setup : Setup) (both : Both) (since moment : List Entry) (job : PendingJob) (cell : Cell) (P : ℕ → Type 0) →
     IsSetup setup → AreTold setup (since ++ moment) → AreWords both.words → AreWords both.store → IsCell 8 cell →
-    sent_in setup moment ≡ Some job → P (word_at both.words cell) → ((word : ℕ) → job ≡ pending.Order cell word → P word) →
+    pending_sent_in setup moment ≡ Some job → P (word_at both.words cell) → ((word : ℕ) → job ≡ pending.Order cell word → P word) →
     ((output : _) (register : _) → job ≡ pending.Restore → cell ≡ Out output register → P (word_at both.store cell)) →
     P (word_at (words_taken both.words both.store (Some job)) cell)
 taken-word laws setup both since moment (pending.Order other word) cell P made told are stored there sent kept ordered restored =
@@ -396,7 +399,7 @@ late-own laws = record {
 to-answer : (setup : Setup) (cell : Cell) (since moment : List Entry) → frames_to_answer setup cell since moment ≤ frames_in since
 to-answer setup cell [] moment = omega arith
 to-answer setup cell (entry ∷ since) moment =
-    go (answers setup (since ++ moment) cell entry) (is_of_frame entry) (to-answer setup cell since moment)
+    go (answers_late setup (since ++ moment) cell entry) (is_of_frame entry) (to-answer setup cell since moment)
   where
     go : (b c : Bool) → frames_to_answer setup cell since moment ≤ frames_in since →
         cond b (cond c (frames_in since + 1) (frames_in since)) (frames_to_answer setup cell since moment)
@@ -417,13 +420,13 @@ sent-recent frames setup cell entries job ago = record {
 
 -- a moment stays recent where no answer comes
 recent-more : (frames : ℕ) (setup : Setup) (cell : Cell) (entries moment : List Entry) (entry : Entry) →
-    answers setup entries cell entry ≡ false → IsRecent frames setup cell entries moment →
+    answers_late setup entries cell entry ≡ false → IsRecent frames setup cell entries moment →
     IsRecent frames setup cell (entry ∷ entries) moment
 recent-more frames setup cell entries moment entry none recent = record {
   since = entry ∷ recent.since;
   is = ap (λ (es : List Entry). entry ∷ es) recent.is;
   few = subst (λ b. cond b (frames_in (entry ∷ recent.since)) (frames_to_answer setup cell recent.since moment) ≤ frames)
-      (sym (subst (λ (es : List Entry). answers setup es cell entry ≡ false) recent.is none)) recent.few;
+      (sym (subst (λ (es : List Entry). answers_late setup es cell entry ≡ false) recent.is none)) recent.few;
 }
 
 -- now is recent
@@ -441,8 +444,8 @@ record WasWritten (frames : ℕ) (setup : Setup) (entries : List Entry) (cell : 
   pub moment : List Entry
   pub job : PendingJob
   pub recent : IsRecent frames setup cell entries moment
-  pub sent : sent_in setup moment ≡ Some job
-  pub writes_it : writes cell job ≡ true
+  pub sent : pending_sent_in setup moment ≡ Some job
+  pub writes_it : gives_cell_word cell job ≡ true
 
 -- what the marks say of a cell's word, where the part didn't restart since the last good answer for the cell
 abbrev Says : ℕ → Setup → List Entry → List Mark → Cell → ℕ → Type 0
@@ -454,7 +457,8 @@ record IsKnown (frames : ℕ) (setup : Setup) (entries : List Entry) (cell : Cel
   pub says : restarted ≡ false → Says frames setup entries (marks setup entries) cell held
 
 listed-more : (frames : ℕ) (setup : Setup) (entries : List Entry) (entry : Entry) (cell : Cell) (held : ℕ) →
-    answers setup entries cell entry ≡ false → WasListed frames setup entries cell held → WasListed frames setup (entry ∷ entries) cell held
+    answers_late setup entries cell entry ≡ false → WasListed frames setup entries cell held →
+    WasListed frames setup (entry ∷ entries) cell held
 listed-more frames setup entries entry cell held none was = record {
   moment = was.moment;
   recent = recent-more frames setup cell entries was.moment entry none was.recent;
@@ -462,7 +466,8 @@ listed-more frames setup entries entry cell held none was = record {
 }
 
 says-more : (frames : ℕ) (setup : Setup) (entries : List Entry) (entry : Entry) (ms : List Mark) (cell : Cell) (held : ℕ) →
-    answers setup entries cell entry ≡ false → Says frames setup entries ms cell held → Says frames setup (entry ∷ entries) ms cell held
+    answers_late setup entries cell entry ≡ false → Says frames setup entries ms cell held →
+    Says frames setup (entry ∷ entries) ms cell held
 says-more frames setup entries entry ms cell held none says word confirmed = elim (says word confirmed) [
   | inl is ↦ inl is
   | inr was ↦ inr (record {
@@ -476,7 +481,7 @@ says-more frames setup entries entry ms cell held none says word confirmed = eli
 
 -- an entry without a good answer for the cell, behind which something may begin to be sent
 quiet-known : (frames : ℕ) (setup : Setup) (entries : List Entry) (entry : Entry) (cell : Cell) (restarted : Bool) (held : ℕ) →
-    answers setup entries cell entry ≡ false → marks setup (entry ∷ entries) ≡ puts setup (entry ∷ entries) ++ marks setup entries →
+    answers_late setup entries cell entry ≡ false → marks setup (entry ∷ entries) ≡ puts setup (entry ∷ entries) ++ marks setup entries →
     IsKnown frames setup entries cell restarted held → IsKnown frames setup (entry ∷ entries) cell restarted held
 quiet-known frames setup entries entry cell restarted held none is known = record {
   listed = λ fresh. listed-more frames setup entries entry cell held none (known.listed fresh);
@@ -487,19 +492,19 @@ quiet-known frames setup entries entry cell restarted held none is known = recor
 
 -- bytes that came back: what holds of a cell after the marks of a good answer, or of none, before something begins to be sent
 abbrev KnownBy : ℕ → Setup → List Entry → Entry → Cell → Bool → ℕ → List Mark → Type 0
-KnownBy frames setup entries entry cell restarted held new = answers setup entries cell entry ≡ list_any (is_good_for cell) new →
+KnownBy frames setup entries entry cell restarted held new = answers_late setup entries cell entry ≡ list_any (is_good_for cell) new →
     marks setup (entry ∷ entries) ≡ puts setup (entry ∷ entries) ++ (new ++ marks setup entries) →
     IsKnown frames setup entries cell restarted held →
-    IsKnown frames setup (entry ∷ entries) cell (cond (answers setup entries cell entry) false restarted) held
+    IsKnown frames setup (entry ∷ entries) cell (cond (answers_late setup entries cell entry) false restarted) held
 
 -- what isn't an answer for the cell
 other-known : (frames : ℕ) (setup : Setup) (entries : List Entry) (entry : Entry) (cell : Cell) (restarted : Bool) (held : ℕ) (new : List
     Mark) →
-    answers setup entries cell entry ≡ false →
+    answers_late setup entries cell entry ≡ false →
     marks setup (entry ∷ entries) ≡ puts setup (entry ∷ entries) ++ (new ++ marks setup entries) →
     standing_of (new ++ marks setup entries) cell ≡ standing_of (marks setup entries) cell →
     IsKnown frames setup entries cell restarted held →
-    IsKnown frames setup (entry ∷ entries) cell (cond (answers setup entries cell entry) false restarted) held
+    IsKnown frames setup (entry ∷ entries) cell (cond (answers_late setup entries cell entry) false restarted) held
 other-known frames setup entries entry cell restarted held new none is same known =
     subst (λ b. IsKnown frames setup (entry ∷ entries) cell (cond b false restarted) held) (sym none) (record {
       listed = λ fresh. listed-more frames setup entries entry cell held none (known.listed fresh);
@@ -533,7 +538,7 @@ answered-known laws frames setup entries entry cell restarted held word read sam
 
 got-known : Below → (frames : ℕ) (setup : Setup) (both : Both) (bytes : List ℕ) (cell : Cell) (restarted : Bool) →
     IsTrueAnswer setup both (Got bytes) → IsKnown frames setup both.entries cell restarted (word_at both.words cell) →
-    IsKnown frames setup (Got bytes ∷ both.entries) cell (cond (answers setup both.entries cell (Got bytes)) false restarted)
+    IsKnown frames setup (Got bytes ∷ both.entries) cell (cond (answers_late setup both.entries cell (Got bytes)) false restarted)
     (word_at both.words cell)
 got-known laws frames setup both bytes cell restarted answer known =
     of-goods (KnownBy frames setup both.entries (Got bytes) cell restarted (word_at both.words cell)) setup both.entries bytes
@@ -554,7 +559,7 @@ got-known laws frames setup both bytes cell restarted answer known =
 -- what the host is told
 tells-known : Below → (frames : ℕ) (setup : Setup) (both : Both) (entry : Entry) (cell : Cell) (restarted : Bool) →
     IsTrueAnswer setup both entry → IsKnown frames setup both.entries cell restarted (word_at both.words cell) →
-    IsKnown frames setup (entry ∷ both.entries) cell (cond (answers setup both.entries cell entry) false restarted) (word_at both.words
+    IsKnown frames setup (entry ∷ both.entries) cell (cond (answers_late setup both.entries cell entry) false restarted) (word_at both.words
     cell)
 unfolding possible_of
 tells-known laws frames setup both (Accepted job) cell restarted answer known =
@@ -632,7 +637,7 @@ takes-known laws frames setup both cell restarted (Some job) made standing there
 is-known : Below → (frames : ℕ) (setup : Setup) (held stored : Words) (events : List Event) (cell : Cell) → IsSetup setup →
     AreWords held → AreWords stored → MayComeEach frames setup held stored events → IsCell 8 cell →
     let both = both_after setup held stored events in
-    IsKnown frames setup both.entries cell (restarted_since setup held stored cell events) (word_at both.words cell)
+    IsKnown frames setup both.entries cell (restarted_since_late setup held stored cell events) (word_at both.words cell)
 is-known laws frames setup held stored [] cell made are have came there = record {
   listed = λ fresh. record {
     moment = [];
@@ -646,14 +651,15 @@ is-known laws frames setup held stored (Hears ∷ before) cell made are have cam
 is-known laws frames setup held stored (Takes place ∷ before) cell made are have came there =
     let both = both_after setup held stored before in
     let standing = stands laws frames setup held stored are have before came.1 in
-    takes-known laws frames setup both cell (restarted_since setup held stored cell before) (waiting_at place both.waiting) made standing
+    takes-known laws frames setup both cell (restarted_since_late setup held stored cell before)
+    (waiting_at place both.waiting) made standing
     there
     (λ job is. taken-sent frames setup both.entries place both.waiting job is standing.queued)
     (is-known laws frames setup held stored before cell made are have came.1 there)
 is-known laws frames setup held stored (Restarts ∷ before) cell made are have came there =
     record { listed = λ fresh. cc; says = λ fresh. cc }
 is-known laws frames setup held stored (Tells entry ∷ before) cell made are have came there =
-    tells-known laws frames setup (both_after setup held stored before) entry cell (restarted_since setup held stored cell before)
+    tells-known laws frames setup (both_after setup held stored before) entry cell (restarted_since_late setup held stored cell before)
     came.0.true_answer (is-known laws frames setup held stored before cell made are have came.1 there)
 
 pub late-possible : Below → LateWordsWerePossible

@@ -36,17 +36,18 @@ use Rattle.pm_world.specs.LimitLaws.{BandsAreHeld as WorldBands, LivesStayLimite
 use Rattle.pm_world.specs.Limited.{StaysLimited, WordWithin, OwnWithin as WorldWithin, OrdersWithin as WorldOrders}
 use Rattle.pm_world.specs.Limited.{commands as limited_world_commands}
 use Rattle.pm_world.specs.Retelling.{WasOrdered as world_ordered, IsOwnWord as world_own, CommandsOwn as world_commands, accepts}
-use Rattle.pm_world.specs.Retelling.{pending_of, told, told_beside}
+use Rattle.pm_world.specs.Retelling.{pending_of, steps_of_event, told_beside}
 use Rattle.pm_world.specs.Surveys.{AreKnownSince as WorldKnown, AreRead as WorldRead, SurveysHoldInLives, cells_at as world_cells}
 use Rattle.pm_part_laws.specs.{Answers.answers, Formats.FormatsAreTrue}
-use Rattle.pm_part_laws.specs.Alike.{LivesAlike, SameSettingsLiveAlike, narrow, renewed}
+use Rattle.pm_part_laws.specs.Alike.{LivesAlike, SameSettingsLiveAlike, narrow, with_host_restart}
 use Rattle.pm_part_laws.specs.Happenings.{Happening, Happens, Hears, IsLifeBeside, MayAllHappen, beside}
 use Rattle.pm_part_laws.specs.Lemmas.Narrow.{asked-at, at, at-event, at-heard, at-more, at-none, config, earlier-may, likely, shape-at}
 use Rattle.pm_part_laws.specs.Lemmas.Narrow.{since, at-since, commands-at, missing-at, stands-at, asked-like, later-begins, later-restarts}
 use Rattle.pm_part_laws.specs.Lemmas.Narrow.{read-at, read-beside, read-like, since-append, since-at}
-use Rattle.pm_part_laws.specs.Limits.{AreGuarded, BandsAreHeld, BeginsWithin, OrdersWithin, OwnWithin, PartsStayLimited}
-use Rattle.pm_part_laws.specs.OwnWords.{IsOwnWord, PartsCommandOwn, WasOrdered, commands}
-use Rattle.pm_part_laws.specs.Surveys.{AreKnownSince, SurveysHoldBeside, cells_at, was_read}
+use Rattle.pm_part_laws.specs.Limits.{AreGuardedBeside, BandsAreHeldBeside, BeginsWithin, OrdersWithinBeside, OwnWithinBeside}
+use Rattle.pm_part_laws.specs.Limits.{PartsStayLimited}
+use Rattle.pm_part_laws.specs.OwnWords.{IsOwnWordBeside, PartsCommandOwn, WasOrdered, commands_beside}
+use Rattle.pm_part_laws.specs.Surveys.{AreKnownSinceBeside, SurveysHoldBeside, cells_at_beside, was_read_beside}
 
 -- The words of its own that an output of a part has, by the life that is like what happened beside it.
 
@@ -65,7 +66,7 @@ module _ (stored : StoredConfigsStartSo) (held : Held) (passes : ℕ) (alike : L
 
   record IsOlder (event : Event) (older : List Event) : Type 0 where
     later : List Event
-    is : renewed alike.earlier ≡ later ++ event ∷ older
+    is : with_host_restart alike.earlier ≡ later ++ event ∷ older
 
   find : (happened : List Happening) (later older : List Event) (event : Event) → at held passes alike happened ≡ later ++ event ∷ older →
       IsOf happened event older ⊎ IsOlder event older
@@ -109,12 +110,12 @@ module _ (stored : StoredConfigsStartSo) (held : Held) (passes : ℕ) (alike : L
 
   -- one that was ordered
   pub ordered-own : (happened : List Happening) → MayAllHappen held passes happened → (output : ℕ) (register : Reg) (word : ℕ) →
-      world_ordered here passes (at held passes alike happened) (Out output register) word → IsOwnWord held passes happened output register word
+      world_ordered here passes (at held passes alike happened) (Out output register) word → IsOwnWordBeside held passes happened output register word
   ordered-own happened may output register word was = go (find happened was.later was.before was.event was.is) where
     asks : asked (now here passes was.before) was.event ≡ Some (host.Order (Out output register) word)
     asks = told-asked here passes was.before was.event (Out output register) word was.orders
 
-    go : IsOf happened was.event was.before ⊎ IsOlder was.event was.before → IsOwnWord held passes happened output register word
+    go : IsOf happened was.event was.before ⊎ IsOlder was.event was.before → IsOwnWordBeside held passes happened output register word
     go (inl of) = inr (inr (record {
       later = of.later;
       event = of.one;
@@ -135,14 +136,15 @@ module _ (stored : StoredConfigsStartSo) (held : Held) (passes : ℕ) (alike : L
     }))
 
   pub own-beside : (happened : List Happening) → MayAllHappen held passes happened → (output : ℕ) (register : Reg) (word : ℕ) → output < 8 →
-      world_own here passes (at held passes alike happened) (Out output register) word → IsOwnWord held passes happened output register word
+      world_own here passes (at held passes alike happened) (Out output register) word →
+      IsOwnWordBeside held passes happened output register word
   own-beside happened may output register word there (inl start) = inr (inl (start ∙ stored.starts held.config held.store output register there))
   own-beside happened may output register word there (inr was) = ordered-own happened may output register word was
 
   -- an order that the host accepted is one of the life
   pub ordered-like : (happened : List Happening) → MayAllHappen held passes happened → (output : ℕ) (register : Reg) (word : ℕ) →
       WasOrdered held passes happened output register word → world_ordered here passes (at held passes alike happened) (Out output register) word
-  unfolding told
+  unfolding steps_of_event
   ordered-like happened may output register word was = record {
     later = since held passes alike was.later (Happens was.event ∷ was.before);
     event = likely held passes alike was.before was.event;
@@ -162,7 +164,7 @@ command-own alike stored law = record {
       let like = all.like happened is.may in
       let c = config held passes all in
       let own : (register : Reg) (word : ℕ) → world_own c passes (at held passes all happened) (Out output register) word →
-      IsOwnWord held passes happened output register word =
+      IsOwnWordBeside held passes happened output register word =
       λ register word. own-beside stored held passes all happened is.may output register word (below is there) in
       let shape = shape-at held passes all output in
       let so : world_commands c passes (at held passes all happened) output (commanded (value_for held.config output)
@@ -209,12 +211,12 @@ command-own alike stored law = record {
 -- an own word is one of the life that is like what happened
 pub own-like : StoredConfigsStartSo → LivesAreOrders → (held : Held) (passes : ℕ) (alike : LivesAlike held passes) (happened : List Happening) →
     IsLifeBeside held passes happened → (output : ℕ) (register : Reg) (word : ℕ) → output < held.config.count →
-    IsOwnWord held passes happened output register word →
+    IsOwnWordBeside held passes happened output register word →
     world_own (config held passes alike) passes (at held passes alike happened) (Out output register) word
 own-like stored law held passes alike happened is output register word there (inl begun) =
-    go (law.own (config held passes alike) passes (renewed alike.earlier) (Out output register) alike.reached.lived there) where
-      go : world_own (config held passes alike) passes (renewed alike.earlier) (Out output register)
-          (word_at (now (config held passes alike) passes (renewed alike.earlier)).device.words (Out output register)) →
+    go (law.own (config held passes alike) passes (with_host_restart alike.earlier) (Out output register) alike.reached.lived there) where
+      go : world_own (config held passes alike) passes (with_host_restart alike.earlier) (Out output register)
+          (word_at (now (config held passes alike) passes (with_host_restart alike.earlier)).device.words (Out output register)) →
           world_own (config held passes alike) passes (at held passes alike happened) (Out output register) word
       go (inl start) = inl (begun ∙ (ap (λ (w : Words). word_at w (Out output register)) (sym alike.reached.words_are) ∙ start))
       go (inr was) = inr (record {
@@ -257,7 +259,7 @@ module _ (laws : Given) (held : Held) (passes : ℕ) where
     abbrev events : List Event
     events = at held passes all happened
 
-    own : (register : Reg) (word : ℕ) → world_own c passes events (Out output register) word → IsOwnWord held passes happened output register word
+    own : (register : Reg) (word : ℕ) → world_own c passes events (Out output register) word → IsOwnWordBeside held passes happened output register word
     own register word = own-beside laws.stored held passes all happened is.may output register word (below-eight is output there)
 
     limits-of : StaysLimited c passes events
@@ -267,7 +269,7 @@ module _ (laws : Given) (held : Held) (passes : ℕ) where
     value-is : (word : ℕ) → value_for c output word ≡ value_for held.config output word
     value-is word = ap (λ (s : Shape). shape_value s word) (shape-at held passes all output)
 
-    own-within : (bounds : Bounds) → OwnWithin held passes happened output bounds → WorldWithin c passes events output bounds
+    own-within : (bounds : Bounds) → OwnWithinBeside held passes happened output bounds → WorldWithin c passes events output bounds
     own-within bounds within register word voltage is-own =
         subst (λ (v : Ratio). WordWithin register bounds v) (sym (value-is word)) (within register word voltage (own register word is-own))
 
@@ -279,14 +281,14 @@ module _ (laws : Given) (held : Held) (passes : ℕ) where
 
   now-commands : (later before : List Happening) (is : IsLifeBeside held passes (later ++ before)) (output : ℕ) →
       limited_world_commands (config held passes (laws.alike held passes is.part is.spelled is.made)) passes
-      (at held passes (laws.alike held passes is.part is.spelled is.made) before) output ≡ commands held passes before output
+      (at held passes (laws.alike held passes is.part is.spelled is.made) before) output ≡ commands_beside held passes before output
   now-commands later before is output = commands-at held passes (laws.alike held passes is.part is.spelled is.made) before
       (earlier-may held passes later before is.may) output
 
   -- the later orders are of words within limits in both
   orders-like : (alike : LivesAlike held passes) (later before : List Happening) → MayAllHappen held passes (later ++ before) →
       (output : ℕ) (bounds : Bounds) →
-      OrdersWithin held passes later before output bounds →
+      OrdersWithinBeside held passes later before output bounds →
       WorldOrders (config held passes alike) passes (since held passes alike later before) (at held passes alike before) output bounds
   orders-like alike [] before may output bounds within = tt
   orders-like alike (Hears bytes ending ∷ later) before may output bounds within = orders-like alike later before may.1 output bounds within
@@ -305,7 +307,7 @@ module _ (formats : FormatsAreTrue) (guards : GuardedOrdersAreWithin) (held : He
     (limits : List OutputLimits) (are : slice_index_or limits output Unlimited ≡ Between bounds)
   where
     guarded-at : (later : List Happening) (event : Event) (before : List Happening) →
-        AreGuarded held passes part limits (later ++ Happens event ∷ before) →
+        AreGuardedBeside held passes part limits (later ++ Happens event ∷ before) →
         option_and_then (guard_fault (record { host = (beside held passes before).host; limits = limits; registers = part })) (asked_by event) ≡ None
     guarded-at [] event before all = all.0
     guarded-at (Happens newer ∷ later) event before all = guarded-at later event before all.1
@@ -318,7 +320,7 @@ module _ (formats : FormatsAreTrue) (guards : GuardedOrdersAreWithin) (held : He
     let-through g None register word free asks voltage limited = cc
     let-through g (Some job) register word free asks voltage limited = guards.voltage g job output register word bounds free asks voltage limited
 
-    ordered-within : (happened : List Happening) → IsLifeBeside held passes happened → AreGuarded held passes part limits happened →
+    ordered-within : (happened : List Happening) → IsLifeBeside held passes happened → AreGuardedBeside held passes part limits happened →
         (register : Reg) (word : ℕ) → is_voltage register ≡ true → WasOrdered held passes happened output register word →
         IsWithin bounds (value_for held.config output word)
     ordered-within happened is through register word voltage was =
@@ -329,12 +331,13 @@ module _ (formats : FormatsAreTrue) (guards : GuardedOrdersAreWithin) (held : He
         in-format (format_at s output) (shape_for held.config output) word bounds
         (λ shape known. formats.held held passes was.before output shape before known)
         (let-through (record { host = s; limits = limits; registers = part }) (asked_by was.event) register word
-        (guarded-at was.later was.event was.before (subst (λ (l : List Happening). AreGuarded held passes part limits l) was.is through))
+        (guarded-at was.later was.event was.before
+        (subst (λ (l : List Happening). AreGuardedBeside held passes part limits l) was.is through))
         was.orders voltage are)
 
-    guarded-own : (happened : List Happening) → IsLifeBeside held passes happened → AreGuarded held passes part limits happened →
-        (register : Reg) (word : ℕ) → is_voltage register ≡ true → IsOwnWord held passes happened output register word →
-        IsOwnWord held passes [] output register word ⊎ IsWithin bounds (value_for held.config output word)
+    guarded-own : (happened : List Happening) → IsLifeBeside held passes happened → AreGuardedBeside held passes part limits happened →
+        (register : Reg) (word : ℕ) → is_voltage register ≡ true → IsOwnWordBeside held passes happened output register word →
+        IsOwnWordBeside held passes [] output register word ⊎ IsWithin bounds (value_for held.config output word)
     guarded-own happened is through register word voltage (inl begun) = inl (inl begun)
     guarded-own happened is through register word voltage (inr (inl kept)) = inl (inr (inl kept))
     guarded-own happened is through register word voltage (inr (inr was)) = inr (ordered-within happened is through register word voltage was)
@@ -390,7 +393,7 @@ stay-limited laws formats guards = record {
         record { part = is.part; spelled = is.spelled; made = is.made; may = earlier-may held passes later before is.may }
 
     allowed : (register : Reg) (bounds : Bounds) (held : Held) (output word : ℕ) → is_voltage register ≡ true → BeginsWithin held output bounds →
-        {passes : ℕ} → IsOwnWord held passes [] output register word ⊎ IsWithin bounds (value_for held.config output word) →
+        {passes : ℕ} → IsOwnWordBeside held passes [] output register word ⊎ IsWithin bounds (value_for held.config output word) →
         WordWithin register bounds (value_for held.config output word)
     allowed register bounds held output word voltage begins (inl (inl begun)) =
         subst (λ (w : ℕ). WordWithin register bounds (value_for held.config output w)) (sym begun) (begins register voltage).0
@@ -411,7 +414,7 @@ stay-limited laws formats guards = record {
         world_own (config held passes (laws.alike held passes is.part is.spelled is.made)) passes
         (at held passes (laws.alike held passes is.part is.spelled is.made) before) (Out output register) word
         ⊎ IsWithin bounds (value_for (config held passes (laws.alike held passes is.part is.spelled is.made)) output word) →
-        IsOwnWord held passes before output register word ⊎ IsWithin bounds (value_for held.config output word)
+        IsOwnWordBeside held passes before output register word ⊎ IsWithin bounds (value_for held.config output word)
     older held passes output bounds later before is there register word (inl is-own) =
         inl (own laws held passes before (earlier held passes later before is) output there register word is-own)
     older held passes output bounds later before is there register word (inr within) =
@@ -419,7 +422,7 @@ stay-limited laws formats guards = record {
         (laws.alike held passes is.part is.spelled is.made) output) within)
 
 -- What an output commands lies in its band.
-pub bands-held : SameSettingsLiveAlike → ListsSayEnough → WorldBands → BandsAreHeld
+pub bands-held : SameSettingsLiveAlike → ListsSayEnough → WorldBands → BandsAreHeldBeside
 bands-held alike lists law held passes part happened output band is there short stands missing gives =
     let all = alike held passes is.part is.spelled is.made in
     let like = all.like happened is.may in
@@ -448,10 +451,10 @@ module _ (held : Held) (passes : ℕ) (alike : LivesAlike held passes) where
     words-are : (now life-config passes life-events).device.words ≡ (beside held passes happened).device.words
     words-are = (alike.like happened may).words
 
-    cells-are : (part : PartRegisters) (output : ℕ) → world_cells life-config passes part life-events output ≡ cells_at held passes part happened output
+    cells-are : (part : PartRegisters) (output : ℕ) → world_cells life-config passes part life-events output ≡ cells_at_beside held passes part happened output
     cells-are part output = ap₂ (λ (s : Shape) (h : Summary). cells_of part s h) (shape-at held passes alike output) host-is
 
-    known-like : (part : PartRegisters) (output : ℕ) (wants : Wants) → AreKnownSince held passes part output wants happened →
+    known-like : (part : PartRegisters) (output : ℕ) (wants : Wants) → AreKnownSinceBeside held passes part output wants happened →
         WorldKnown life-config passes part output wants life-events
     known-like part output wants known register needed =
         let so = known register (ap (λ (k : Cells). is_needed (known_of k output) wants register) (sym (cells-are part output)) ∙ needed) in (
@@ -461,7 +464,7 @@ module _ (held : Held) (passes : ℕ) (alike : LivesAlike held passes) where
         )
 
     known-beside : (part : PartRegisters) (output : ℕ) (wants : Wants) → WorldKnown life-config passes part output wants life-events →
-        AreKnownSince held passes part output wants happened
+        AreKnownSinceBeside held passes part output wants happened
     known-beside part output wants known register needed =
         let so = known register (ap (λ (k : Cells). is_needed (known_of k output) wants register) (cells-are part output) ∙ needed) in (
           ap (λ (k : Cells). is_none (known_at k (Out output register))) (sym (cells-are part output)) ∙ so.0,
@@ -470,11 +473,12 @@ module _ (held : Held) (passes : ℕ) (alike : LivesAlike held passes) where
         )
 
 -- what was read stays read
-was-more : (held : Held) (passes : ℕ) (cell : Cell) (newer later before : List Happening) → was_read held passes cell later before ≡ true →
-    was_read held passes cell (newer ++ later) before ≡ true
+was-more : (held : Held) (passes : ℕ) (cell : Cell) (newer later before : List Happening) → was_read_beside held passes cell later before
+    ≡ true →
+    was_read_beside held passes cell (newer ++ later) before ≡ true
 was-more held passes cell [] later before was = was
 was-more held passes cell (one ∷ newer) later before was =
-    or-true (answers held passes cell ((newer ++ later) ++ before) one) (was_read held passes cell (newer ++ later) before)
+    or-true (answers held passes cell ((newer ++ later) ++ before) one) (was_read_beside held passes cell (newer ++ later) before)
     (was-more held passes cell newer later before was)
   where
     or-true : (a b : Bool) → b ≡ true → (a || b) ≡ true

@@ -20,7 +20,7 @@ use Rattle.pm_world.specs.Lived.{IsLived}
 use Rattle.pm_world.specs.Parts.{IsPart, IsReached, stored_config}
 use Rattle.pm_world.specs.Setup.{setup_of}
 use Rattle.pm_world.specs.State.{State, answer_to, share_of}
-use Rattle.pm_part_laws.specs.Happenings.{Happening, Happens, Hears, MayAllHappen, beside, told}
+use Rattle.pm_part_laws.specs.Happenings.{Happening, Happens, Hears, MayAllHappen, beside, entries_beside}
 use Rattle.pm_part_laws.specs.Settings.{HaveSameSettings}
 
 -- what came back to the host
@@ -52,28 +52,28 @@ narrow held passes (one ∷ before) = events_like (beside held passes before) on
 pub record IsLike (config : Config) (passes : ℕ) (events : List Event) (held : Held) (happened : List Happening) (entries : List Entry) : Type 0 where
   pub lived : IsLived config passes events
   pub host : (now config passes events).host ≡ (beside held passes happened).host
-  pub told_is : (life config passes events).entries ≡ told held passes happened ++ entries
+  pub told_is : (life config passes events).entries ≡ entries_beside held passes happened ++ entries
   pub settings : HaveSameSettings (now config passes events).device (beside held passes happened).device
   pub words : (now config passes events).device.words ≡ (beside held passes happened).device.words
   pub store : (now config passes events).device.store ≡ (beside held passes happened).device.store
   pub ended : (now config passes events).end ≡ (beside held passes happened).end
 
 -- the events of a life that led to a part, the newest of which is the restart of the host
-abbrev pub renewed : List Event → List Event
-renewed earlier = RestartHost ∷ earlier
+abbrev pub with_host_restart : List Event → List Event
+with_host_restart earlier = RestartHost ∷ earlier
 
 -- For a part as it is there is a life that led to it, without a restart of the converter, and whose host has just started again
 -- (`reached`). Whatever happens from there on, also with reads between, is like a life that goes on from that one, at each moment
 -- (`like`): what happens later is events that come later. Each event tells the host the same (`tells`).
 pub record LivesAlike (held : Held) (passes : ℕ) : Type 0 where
   pub earlier : List Event
-  pub reached : IsReached held.config passes held.words held.store (renewed earlier)
+  pub reached : IsReached held.config passes held.words held.store (with_host_restart earlier)
   pub spelled : IsSpelled (stored_config held.config held.store)
   pub like : (happened : List Happening) → MayAllHappen held passes happened →
-      IsLike (stored_config held.config held.store) passes (narrow held passes happened ++ renewed earlier) held happened
-      (life (stored_config held.config held.store) passes (renewed earlier)).entries
+      IsLike (stored_config held.config held.store) passes (narrow held passes happened ++ with_host_restart earlier) held happened
+      (life (stored_config held.config held.store) passes (with_host_restart earlier)).entries
   pub tells : (happened : List Happening) (event : Event) → MayAllHappen held passes (Happens event ∷ happened) →
-      (share_of (now (stored_config held.config held.store) passes (narrow held passes happened ++ renewed earlier))
+      (share_of (now (stored_config held.config held.store) passes (narrow held passes happened ++ with_host_restart earlier))
       (event_like (beside held passes happened) event)).told
       ≡ (share_of (beside held passes happened) event).told
 

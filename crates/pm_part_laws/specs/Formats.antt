@@ -14,14 +14,14 @@ use Rattle.pm_world.specs.declared.event.Event.{Event}
 use Rattle.pm_world.specs.declared.event.Event.TheVariants.{OrderMicro}
 use Rattle.pm_world.specs.State.{asked}
 use Rattle.pm_part_laws.specs.Answers.{renews}
-use Rattle.pm_part_laws.specs.Happenings.{Happening, Happens, IsLifeBeside, begins_another, beside, told}
+use Rattle.pm_part_laws.specs.Happenings.{Happening, Happens, IsLifeBeside, begins_another, beside, entries_beside}
 
 -- an order in microvolts came to the order of the nearest word in the part's format
 pub record OrdersNearest (held : Held) (passes : ℕ) (cell : Cell) (microvolts : ℤ) (before : List Happening) : Type 0 where
   pub word : ℕ
   pub nearest : nearest_word (value_for held.config (output_of cell)) (shape_rank (shape_for held.config (output_of cell)))
       (micros microvolts) ≡ Some word
-  pub ordered : told held passes (Happens (OrderMicro cell microvolts) ∷ before) ≡ host.Accepted (host.Order cell word) ∷ told held passes before
+  pub ordered : entries_beside held passes (Happens (OrderMicro cell microvolts) ∷ before) ≡ host.Accepted (host.Order cell word) ∷ entries_beside held passes before
 
 -- A format that the host holds of an output's voltages is the part's (`held`). A learn that ended Learned leaves the part's format until the
 -- host restarts (`ended`); any other job leaves each format as it was (`kept`). An order in microvolts is that of the nearest word

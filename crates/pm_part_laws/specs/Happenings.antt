@@ -3,7 +3,7 @@ use Rattle.std.specs.Prelude.{◌≡◌, ℕ, Bool, false, List, [], ◌∷◌, 
 use Rattle.pm_device.specs.declared.converter.Ending.{Ending}
 use Rattle.pm_device.specs.Effect as device
 use Rattle.pm_device.specs.Held.{Held}
-use Rattle.pm_device.specs.History.{next as device_next}
+use Rattle.pm_device.specs.History.{device_next}
 use Rattle.pm_host.specs.Refusals.{IsSetup}
 use Rattle.pm_host.specs.Summary.{start}
 use Rattle.pm_host.specs.Transcript as host
@@ -24,27 +24,27 @@ pub data Happening : Type 0 where
   Hears : (bytes : List ℕ) (ending : Ending) → Happening
 
 -- a host that has just started beside a part as it is
-abbrev pub begun : Held → ℕ → State
-begun held passes = record { device = held; host = start (setup_of held.config passes); end = None; taken = 0 }
+abbrev pub begun_beside : Held → ℕ → State
+begun_beside held passes = record { device = held; host = start (setup_of held.config passes); end = None; taken = 0 }
 
 -- what a happening makes of both
-abbrev pub after : State → Happening → State
-after s (Happens event) = next s event
-after s (Hears bytes ending) = record s { device = device_next s.device (device.Hearing bytes ending) }
+abbrev pub after_happening : State → Happening → State
+after_happening s (Happens event) = next s event
+after_happening s (Hears bytes ending) = record s { device = device_next s.device (device.Hearing bytes ending) }
 
 -- the host and the part after what happened
 unfoldable pub beside : Held → ℕ → List Happening → State
-beside held passes [] = begun held passes
-beside held passes (one ∷ before) = after (beside held passes before) one
+beside held passes [] = begun_beside held passes
+beside held passes (one ∷ before) = after_happening (beside held passes before) one
 
 -- what a happening tells the host, and all that it was told
 abbrev pub telling : State → Happening → Option Entry
 telling s (Happens event) = (share_of s event).told
 telling s (Hears bytes ending) = None
 
-unfoldable pub told : Held → ℕ → List Happening → List Entry
-told held passes [] = []
-told held passes (one ∷ before) = option_to_list (telling (beside held passes before) one) ++ told held passes before
+unfoldable pub entries_beside : Held → ℕ → List Happening → List Entry
+entries_beside held passes [] = []
+entries_beside held passes (one ∷ before) = option_to_list (telling (beside held passes before) one) ++ entries_beside held passes before
 
 -- nothing is against an event, and bytes that are no job's keep the settings
 abbrev pub MayHappen : State → Happening → Type 0

@@ -23,10 +23,10 @@ use Rattle.pm_world.specs.State.{asked}
 use Rattle.pm_part_laws.specs.Happenings.{Happening, Happens, Hears, IsLifeBeside, beside}
 
 -- the events among what happened, without what is heard and is no job's
-abbrev pub events_in : List Happening → List Event
-events_in [] = []
-events_in (Happens event ∷ before) = event ∷ events_in before
-events_in (Hears bytes ending ∷ before) = events_in before
+abbrev pub events_among : List Happening → List Event
+events_among [] = []
+events_among (Happens event ∷ before) = event ∷ events_among before
+events_among (Hears bytes ending ∷ before) = events_among before
 
 -- deliveries of an order's write, the end of that write, acknowledged or not, and an exchange that nothing disturbs
 abbrev pub honest_frames : List Arrival → Bool → List Event
@@ -43,7 +43,7 @@ pub record WentThrough (held : Held) (passes : ℕ) (cell : Cell) (word : ℕ) (
 abbrev pub HonestOrdersGoThrough : Type 0
 HonestOrdersGoThrough = (held : Held) (passes : ℕ) (frames before : List Happening) (order : Event) (cell : Cell) (word : ℕ)
     (arrivals : List Arrival) (acked : Bool) →
-    IsLifeBeside held passes (frames ++ Happens order ∷ before) → events_in frames ≡ honest_frames arrivals acked →
+    IsLifeBeside held passes (frames ++ Happens order ∷ before) → events_among frames ≡ honest_frames arrivals acked →
     asked (beside held passes before) order ≡ Some (host.Order cell word) →
     is_allowed (word_at (beside held passes before).device.words Protect) (cell_code cell) ≡ true →
     list_any (is_whole (frame_of held.config.addr (cell_write cell word))) arrivals ≡ true →

@@ -13,11 +13,12 @@ use Rattle.pm_host.specs.declared.command.Command.{Command}
 use Rattle.pm_host.specs.declared.command.Command.TheVariants.{StoreUserAll, RestoreUserAll}
 use Rattle.pm_host.specs.Answers.{good_word}
 use Rattle.pm_host.specs.Marks.{Mark, Put, Good, Restored, Restart, goods, read_by}
-use Rattle.pm_host.specs.Now.{now}
+use Rattle.pm_host.specs.Now.{host_now}
 use Rattle.pm_host.specs.Refusals.{IsSetup, may_come}
 use Rattle.pm_host.specs.Told.{is_of_frame}
 use Rattle.pm_host.specs.Transcript.{Setup, Job, Order, Send, Entry, Got, open_job, told_since}
 use Rattle.pm_host.specs.Transcript.{is_write_turn}
+use Rattle.pm_world.specs.Confirmed.{is_good_for}
 
 -- a write that the part heard and hasn't taken, and how many frames have ended since it was heard, its own among them
 pub record Waiting : Type 0 where
@@ -47,13 +48,13 @@ sent_command StoreUserAll = Some pending.Store
 sent_command RestoreUserAll = Some pending.Restore
 sent_command _ = None
 
-abbrev pub sent_by : Option Job → List Entry → Option PendingJob
-sent_by (Some (Order cell word)) told = if is_write_turn told then Some (pending.Order cell word) else None
-sent_by (Some (Send command)) told = sent_command command
-sent_by job told = None
+abbrev pub pending_sent_by : Option Job → List Entry → Option PendingJob
+pending_sent_by (Some (Order cell word)) told = if is_write_turn told then Some (pending.Order cell word) else None
+pending_sent_by (Some (Send command)) told = sent_command command
+pending_sent_by job told = None
 
-abbrev pub sent_in : Setup → List Entry → Option PendingJob
-sent_in setup entries = sent_by (open_job setup entries) (told_since entries)
+abbrev pub pending_sent_in : Setup → List Entry → Option PendingJob
+pending_sent_in setup entries = pending_sent_by (open_job setup entries) (told_since entries)
 
 -- the write at a place of the queue, and the queue without it
 abbrev pub waiting_at : ℕ → List Waiting → Option PendingJob
@@ -77,28 +78,28 @@ MayWait frames [] = Unit {0}
 MayWait frames (waits ∷ rest) = (waits.frames < frames) × MayWait frames rest
 
 -- what both hold as the host begins, and after one event
-abbrev pub begun : Words → Words → Both
-begun held stored = record { words = held; store = stored; waiting = []; entries = [] }
+abbrev pub both_begun : Words → Words → Both
+both_begun held stored = record { words = held; store = stored; waiting = []; entries = [] }
 
-abbrev pub after : Setup → Both → Event → Both
-after setup both Hears = record both {
-  waiting = option_to_list (option_map (λ job. record { job = job; frames = 0 }) (sent_in setup both.entries)) ++ both.waiting;
+abbrev pub both_after_event : Setup → Both → Event → Both
+both_after_event setup both Hears = record both {
+  waiting = option_to_list (option_map (λ job. record { job = job; frames = 0 }) (pending_sent_in setup both.entries)) ++ both.waiting;
 }
-after setup both (Takes place) = record both {
+both_after_event setup both (Takes place) = record both {
   words = words_taken both.words both.store (waiting_at place both.waiting);
   store = store_taken both.words both.store (waiting_at place both.waiting);
   waiting = waiting_without place both.waiting;
 }
-after setup both Restarts = record both { words = restart_words both.store; waiting = [] }
-after setup both (Tells entry) = record both {
+both_after_event setup both Restarts = record both { words = restart_words both.store; waiting = [] }
+both_after_event setup both (Tells entry) = record both {
   waiting = if is_of_frame entry then all_longer both.waiting else both.waiting;
   entries = entry ∷ both.entries;
 }
 
 -- what both hold after some events
 abbrev pub both_after : Setup → Words → Words → List Event → Both
-both_after setup held stored [] = begun held stored
-both_after setup held stored (event ∷ before) = after setup (both_after setup held stored before) event
+both_after setup held stored [] = both_begun held stored
+both_after setup held stored (event ∷ before) = both_after_event setup (both_after setup held stored before) event
 
 -- a good answer has the word that the register then holds
 abbrev pub IsTrueAnswer : Setup → Both → Entry → Type 0
@@ -109,7 +110,7 @@ IsTrueAnswer setup both entry = Unit {0}
 
 -- What the host is told is what might come then, a good answer is true, and each write that waits still has a frame to wait.
 pub record MayTell (frames : ℕ) (setup : Setup) (both : Both) (entry : Entry) : Type 0 where
-  pub comes : may_come (now setup both.entries) entry ≡ true
+  pub comes : may_come (host_now setup both.entries) entry ≡ true
   pub true_answer : IsTrueAnswer setup both entry
   pub waits : is_of_frame entry ≡ true → MayWait frames both.waiting
 
@@ -130,28 +131,22 @@ pub record IsLate (frames : ℕ) (setup : Setup) (held stored : Words) (events :
   pub stores : AreWords stored
   pub came : MayComeEach frames setup held stored events
 
--- the mark is a good answer for the cell, and what the host was told after these entries is one
-abbrev pub is_good_for : Cell → Mark → Bool
-is_good_for cell (Put put word) = false
-is_good_for cell (Good read word) = same_cell read cell
-is_good_for cell Restored = false
-is_good_for cell Restart = false
-
-abbrev pub answers : Setup → List Entry → Cell → Entry → Bool
-answers setup before cell (Got bytes) = list_any (is_good_for cell) (goods setup before bytes)
-answers setup before cell entry = false
+-- what the host was told after these entries is a good answer for the cell
+abbrev pub answers_late : Setup → List Entry → Cell → Entry → Bool
+answers_late setup before cell (Got bytes) = list_any (is_good_for cell) (goods setup before bytes)
+answers_late setup before cell entry = false
 
 -- the part restarted since the host's last good answer for the cell; where there was none, it restarted at all
 abbrev pub restarted_by : Setup → Both → Cell → Event → Bool → Bool
 restarted_by setup both cell Hears restarted = restarted
 restarted_by setup both cell (Takes place) restarted = restarted
 restarted_by setup both cell Restarts restarted = true
-restarted_by setup both cell (Tells entry) restarted = if answers setup both.entries cell entry then false else restarted
+restarted_by setup both cell (Tells entry) restarted = if answers_late setup both.entries cell entry then false else restarted
 
-abbrev pub restarted_since : Setup → Words → Words → Cell → List Event → Bool
-restarted_since setup held stored cell [] = false
-restarted_since setup held stored cell (event ∷ before) = restarted_by setup (both_after setup held stored before) cell event
-    (restarted_since setup held stored cell before)
+abbrev pub restarted_since_late : Setup → Words → Words → Cell → List Event → Bool
+restarted_since_late setup held stored cell [] = false
+restarted_since_late setup held stored cell (event ∷ before) = restarted_by setup (both_after setup held stored before) cell event
+    (restarted_since_late setup held stored cell before)
 
 -- how many frames the entries have
 abbrev pub frames_in : List Entry → ℕ
@@ -163,7 +158,7 @@ frames_in (entry ∷ before) = if is_of_frame entry then frames_in before + 1 el
 abbrev pub frames_to_answer : Setup → Cell → List Entry → List Entry → ℕ
 frames_to_answer setup cell [] moment = 0
 frames_to_answer setup cell (entry ∷ since) moment =
-    if answers setup (since ++ moment) cell entry then frames_in (entry ∷ since) else frames_to_answer setup cell since moment
+    if answers_late setup (since ++ moment) cell entry then frames_in (entry ∷ since) else frames_to_answer setup cell since moment
 
 -- The moment came after the last good answer for the cell, or at most so many frames before it.
 pub record IsRecent (frames : ℕ) (setup : Setup) (cell : Cell) (entries moment : List Entry) : Type 0 where
@@ -172,14 +167,14 @@ pub record IsRecent (frames : ℕ) (setup : Setup) (cell : Cell) (entries moment
   pub few : frames_to_answer setup cell since moment ≤ frames
 
 -- a write that gives the cell a word
-abbrev pub writes : Cell → PendingJob → Bool
-writes cell (pending.Order other word) = same_cell other cell
-writes cell pending.Store = false
-writes cell pending.Restore = is_output_cell cell
+abbrev pub gives_cell_word : Cell → PendingJob → Bool
+gives_cell_word cell (pending.Order other word) = same_cell other cell
+gives_cell_word cell pending.Store = false
+gives_cell_word cell pending.Restore = is_output_cell cell
 
 -- a word that the cell held or had stored as the host began, or an order of which was sent for this very cell
 pub data IsOwn (setup : Setup) (held stored : Words) (entries : List Entry) (cell : Cell) (word : ℕ) : Type 0 where
   was_held : word ≡ word_at held cell → IsOwn setup held stored entries cell word
   was_stored : word ≡ word_at stored cell → IsOwn setup held stored entries cell word
-  was_sent : (since moment : List Entry) → entries ≡ since ++ moment → sent_in setup moment ≡ Some (pending.Order cell word) →
+  was_sent : (since moment : List Entry) → entries ≡ since ++ moment → pending_sent_in setup moment ≡ Some (pending.Order cell word) →
       IsOwn setup held stored entries cell word

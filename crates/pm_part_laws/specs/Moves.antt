@@ -21,41 +21,41 @@ use Rattle.pm_world.specs.Legal.{frame_of}
 use Rattle.pm_world.specs.Retelling.{pending_code, pending_message, pending_of}
 use Rattle.pm_world.specs.Setup.{setup_of}
 use Rattle.pm_world.specs.State.{asked}
-use Rattle.pm_part_laws.specs.Happenings.{Happening, Happens, IsLifeBeside, begins_another, beside, restarts, told}
+use Rattle.pm_part_laws.specs.Happenings.{Happening, Happens, IsLifeBeside, begins_another, beside, restarts, entries_beside}
 
 -- the words of the cells, and those in the store, after what happened
-abbrev pub words_at : Held → ℕ → List Happening → Words
-words_at held passes happened = (beside held passes happened).device.words
+abbrev pub words_at_beside : Held → ℕ → List Happening → Words
+words_at_beside held passes happened = (beside held passes happened).device.words
 
-abbrev pub store_at : Held → ℕ → List Happening → Words
-store_at held passes happened = (beside held passes happened).device.store
+abbrev pub store_at_beside : Held → ℕ → List Happening → Words
+store_at_beside held passes happened = (beside held passes happened).device.store
 
 -- the order, store or restore that is open
-abbrev pub open_pending : Held → ℕ → List Happening → Option PendingJob
-open_pending held passes happened =
-    option_and_then pending_of (host.open_job (setup_of held.config passes) (told held passes happened))
+abbrev pub open_pending_beside : Held → ℕ → List Happening → Option PendingJob
+open_pending_beside held passes happened =
+    option_and_then pending_of (host.open_job (setup_of held.config passes) (entries_beside held passes happened))
 
 -- the job is the open one, its frame is heard whole as it arrives, and WRITE_PROTECT allows its code
 pub record JobTakes (held : Held) (passes : ℕ) (before : List Happening) (arrival : Arrival) (job : PendingJob) : Type 0 where
-  pub opened : open_pending held passes before ≡ Some job
+  pub opened : open_pending_beside held passes before ≡ Some job
   pub whole : is_whole (frame_of held.config.addr (pending_message job)) arrival ≡ true
-  pub allowed : is_allowed (word_at (words_at held passes before) Protect) (pending_code job) ≡ true
+  pub allowed : is_allowed (word_at (words_at_beside held passes before) Protect) (pending_code job) ≡ true
 
 -- How a cell gets this word: the part restarted, and the word is the stored one; or an order of this word for this very cell took; or a
 -- restore took, and the word is the stored one of an output's cell.
 pub data MovesBy (held : Held) (passes : ℕ) (before : List Happening) (cell : Cell) (word : ℕ) : Happening → Type 0 where
-  came_back : word ≡ word_at (store_at held passes before) cell
+  came_back : word ≡ word_at (store_at_beside held passes before) cell
       → MovesBy held passes before cell word (Happens RestartDevice)
   ordered : (arrival : Arrival) → JobTakes held passes before arrival (Order cell word)
       → MovesBy held passes before cell word (Happens (Deliver arrival))
   restored : (arrival : Arrival) → JobTakes held passes before arrival Restore
-      → is_output_cell cell ≡ true → word ≡ word_at (store_at held passes before) cell
+      → is_output_cell cell ≡ true → word ≡ word_at (store_at_beside held passes before) cell
       → MovesBy held passes before cell word (Happens (Deliver arrival))
 
 -- how the store becomes this one: a store took, and copied each output's words of that moment
 pub data StoresBy (held : Held) (passes : ℕ) (before : List Happening) (store : Words) : Happening → Type 0 where
   stored : (arrival : Arrival) → JobTakes held passes before arrival Store
-      → store ≡ with_outputs (store_at held passes before) (words_at held passes before)
+      → store ≡ with_outputs (store_at_beside held passes before) (words_at_beside held passes before)
       → StoresBy held passes before store (Happens (Deliver arrival))
 
 -- Whatever happens, a cell keeps its word or gets another as above (`moves`), and so does the store (`stores`). A delivery by which the open
@@ -63,17 +63,17 @@ pub data StoresBy (held : Held) (passes : ℕ) (before : List Happening) (store 
 pub record PartsMoveByTheOpenJob : Type 0 where
   pub moves : (held : Held) (passes : ℕ) (before : List Happening) (one : Happening) (cell : Cell) →
       IsLifeBeside held passes (one ∷ before) → IsCell held.config.count cell →
-      let word = word_at (words_at held passes (one ∷ before)) cell in
-      (word ≡ word_at (words_at held passes before) cell) ⊎ MovesBy held passes before cell word one
+      let word = word_at (words_at_beside held passes (one ∷ before)) cell in
+      (word ≡ word_at (words_at_beside held passes before) cell) ⊎ MovesBy held passes before cell word one
   pub stores : (held : Held) (passes : ℕ) (before : List Happening) (one : Happening) → IsLifeBeside held passes (one ∷ before) →
-      let store = store_at held passes (one ∷ before) in
-      (store ≡ store_at held passes before) ⊎ StoresBy held passes before store one
+      let store = store_at_beside held passes (one ∷ before) in
+      (store ≡ store_at_beside held passes before) ⊎ StoresBy held passes before store one
   pub takes : (held : Held) (passes : ℕ) (before : List Happening) (arrival : Arrival) (job : PendingJob) →
       IsLifeBeside held passes (Happens (Deliver arrival) ∷ before) → JobTakes held passes before arrival job →
-      (words_at held passes (Happens (Deliver arrival) ∷ before)
-      ≡ words_taken (words_at held passes before) (store_at held passes before) (Some job))
-      × (store_at held passes (Happens (Deliver arrival) ∷ before)
-      ≡ store_taken (words_at held passes before) (store_at held passes before) (Some job))
+      (words_at_beside held passes (Happens (Deliver arrival) ∷ before)
+      ≡ words_taken (words_at_beside held passes before) (store_at_beside held passes before) (Some job))
+      × (store_at_beside held passes (Happens (Deliver arrival) ∷ before)
+      ≡ store_taken (words_at_beside held passes before) (store_at_beside held passes before) (Some job))
 
 -- An order that ended as Differs never took: if the part didn't restart since it was accepted, the cell had the word that was read at each
 -- moment since then, and that isn't the ordered one.
@@ -83,4 +83,4 @@ DiffersNeverTook = (held : Held) (passes : ℕ) (later since before : List Happe
     asked (beside held passes before) order ≡ Some (host.Order cell word) →
     list_any begins_another (later ++ since) ≡ false → list_any restarts (later ++ since) ≡ false →
     (beside held passes (later ++ (since ++ Happens order ∷ before))).end ≡ Some (Differs read) →
-    (read ≢ word) × (word_at (words_at held passes (since ++ Happens order ∷ before)) cell ≡ read)
+    (read ≢ word) × (word_at (words_at_beside held passes (since ++ Happens order ∷ before)) cell ≡ read)

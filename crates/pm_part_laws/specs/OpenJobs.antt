@@ -15,20 +15,20 @@ use Rattle.pm_host.specs.Summary.{stage_message}
 use Rattle.pm_world.specs.declared.event.Arrival.{Arrival}
 use Rattle.pm_world.specs.declared.event.Back.{Back}
 use Rattle.pm_world.specs.declared.event.Event.TheVariants.{Exchange, Finish}
-use Rattle.pm_world.specs.GoodBus.{comes_whole, delivers_whole, is_beside, is_reading}
+use Rattle.pm_world.specs.GoodBus.{comes_whole, delivers_whole, is_beside, is_reading_change}
 use Rattle.pm_world.specs.GoodTurns.{Took, Turn, good_end_by, is_taken, turn_by}
 use Rattle.pm_world.specs.Legal.{frame_of}
 use Rattle.pm_part_laws.specs.Happenings.{Happening, Happens, Hears, IsLifeBeside, beside}
-use Rattle.pm_part_laws.specs.Moves.{words_at}
+use Rattle.pm_part_laws.specs.Moves.{words_at_beside}
 
 -- a reading of the part changes, or it hears bytes that are no job's; beside these what is sent may be delivered
-abbrev pub is_look : Happening → Bool
-is_look (Happens event) = is_reading event
-is_look (Hears bytes ending) = true
+abbrev pub is_reading_or_heard : Happening → Bool
+is_reading_or_heard (Happens event) = is_reading_change event
+is_reading_or_heard (Hears bytes ending) = true
 
-abbrev pub is_aside : Happening → Bool
-is_aside (Happens event) = is_beside event
-is_aside (Hears bytes ending) = true
+abbrev pub is_beside_or_heard : Happening → Bool
+is_beside_or_heard (Happens event) = is_beside event
+is_beside_or_heard (Hears bytes ending) = true
 
 -- a delivery by which the write of this frame is heard whole
 abbrev pub delivers : List ℕ → Happening → Bool
@@ -40,7 +40,7 @@ delivers frame (Hears bytes ending) = false
 pub record IsWrittenBeside (frame : List ℕ) (acked : Bool) (before happened : List Happening) : Type 0 where
   pub between : List Happening
   pub is : happened ≡ Happens (Finish acked) ∷ between ++ before
-  pub aside : list_all is_aside between ≡ true
+  pub aside : list_all is_beside_or_heard between ≡ true
   pub whole : list_any (delivers frame) between ≡ true
 
 -- The exchange of this request came whole. Readings changed and bytes were heard that are no job's before it, and nothing else happened.
@@ -49,7 +49,7 @@ pub record IsReadBeside (held : Held) (passes : ℕ) (request : Message) (before
   pub back : Back
   pub looks : List Happening
   pub is : happened ≡ Happens (Exchange arrival back) ∷ looks ++ before
-  pub aside : list_all is_look looks ≡ true
+  pub aside : list_all is_reading_or_heard looks ≡ true
   pub whole : comes_whole (beside held passes (looks ++ before)) request arrival back ≡ true
 
 -- the frame that a stage sends came whole: an exchange, or a write, which is acknowledged or not
@@ -69,10 +69,10 @@ ComeWholeBeside held passes (acked ∷ more) before after =
 
 -- what a frame that comes whole makes of a job, and how the job ends once all its frames do, by the words that the part then holds
 abbrev pub turn_at : Held → ℕ → List Happening → Bool → Stage → Turn
-turn_at held passes before acked stage = turn_by (mode_for held.config) (word_at (words_at held passes before)) passes acked stage
+turn_at held passes before acked stage = turn_by (mode_for held.config) (word_at (words_at_beside held passes before)) passes acked stage
 
 abbrev pub good_end_at : Held → ℕ → List Happening → Stage → JobEnd
-good_end_at held passes before stage = good_end_by (word_at (words_at held passes before)) passes stage
+good_end_at held passes before stage = good_end_by (word_at (words_at_beside held passes before)) passes stage
 
 -- Each frame of an open job that comes whole makes of the job just what its stage says, whatever went before (`turn`). Once its frames come
 -- whole there are no more of them than the job had left (`few`), and it ends just as said (`ends`).

@@ -21,14 +21,14 @@ pub record WasOrdered (held : Held) (passes : ℕ) (happened : List Happening) (
   pub orders : asked (beside held passes before) event ≡ Some (host.Order (Out output register) word)
 
 -- A word of an output's register that the part held or had stored as the host began, or that was ordered since for that same register.
-abbrev pub IsOwnWord : Held → ℕ → List Happening → ℕ → Reg → ℕ → Type 0
-IsOwnWord held passes happened output register word =
+abbrev pub IsOwnWordBeside : Held → ℕ → List Happening → ℕ → Reg → ℕ → Type 0
+IsOwnWordBeside held passes happened output register word =
     (word ≡ word_at held.words (Out output register))
     ⊎ ((word ≡ word_at held.store (Out output register)) ⊎ WasOrdered held passes happened output register word)
 
 -- the voltage that an output commands after what happened
-abbrev pub commands : Held → ℕ → List Happening → ℕ → Ratio
-commands held passes happened output = commanded (value_for held.config output) (beside held passes happened).device.words output
+abbrev pub commands_beside : Held → ℕ → List Happening → ℕ → Ratio
+commands_beside held passes happened output = commanded (value_for held.config output) (beside held passes happened).device.words output
 
 -- An output commands a value of its own words: that of the one which a byte of its own OPERATION selects, cut to those of its own VOUT_MIN
 -- and VOUT_MAX.
@@ -37,11 +37,11 @@ pub record CommandsOwn (held : Held) (passes : ℕ) (happened : List Happening) 
   pub selected : ℕ
   pub least : ℕ
   pub most : ℕ
-  pub own_operation : IsOwnWord held passes happened output Operation operation
-  pub own_selected : IsOwnWord held passes happened output (selected_register operation) selected
-  pub own_least : IsOwnWord held passes happened output VoutMin least
-  pub own_most : IsOwnWord held passes happened output VoutMax most
-  pub cut : commands held passes happened output
+  pub own_operation : IsOwnWordBeside held passes happened output Operation operation
+  pub own_selected : IsOwnWordBeside held passes happened output (selected_register operation) selected
+  pub own_least : IsOwnWordBeside held passes happened output VoutMin least
+  pub own_most : IsOwnWordBeside held passes happened output VoutMax most
+  pub cut : commands_beside held passes happened output
       ≡ limited (value_for held.config output selected) (value_for held.config output least) (value_for held.config output most)
 
 -- Whatever happened beside a part as it is, each output commands a value of its own words (`commanded`), and each register of it holds one
@@ -51,7 +51,7 @@ pub record PartsCommandOwn : Type 0 where
       output < held.config.count → CommandsOwn held passes happened output
   pub holds : (held : Held) (passes : ℕ) (happened : List Happening) (output : ℕ) (register : Reg) → IsLifeBeside held passes happened →
       output < held.config.count →
-      IsOwnWord held passes happened output register (word_at (beside held passes happened).device.words (Out output register))
+      IsOwnWordBeside held passes happened output register (word_at (beside held passes happened).device.words (Out output register))
   pub stores : (held : Held) (passes : ℕ) (happened : List Happening) (output : ℕ) (register : Reg) → IsLifeBeside held passes happened →
       output < held.config.count →
-      IsOwnWord held passes happened output register (word_at (beside held passes happened).device.store (Out output register))
+      IsOwnWordBeside held passes happened output register (word_at (beside held passes happened).device.store (Out output register))

@@ -24,47 +24,48 @@ use Rattle.pm_rail.specs.Survey.{asking, is_surveyed, next_job, nothing_read, wa
 use Rattle.pm_world.specs.declared.event.Event.{Event}
 use Rattle.pm_world.specs.Bands.{AreShort, HoldsMissing}
 use Rattle.pm_world.specs.Job.{asked_by}
-use Rattle.pm_part_laws.specs.Answers.{answers, has_read, restarted_since}
+use Rattle.pm_part_laws.specs.Answers.{answers, host_has_read_beside, restarted_since_beside}
 use Rattle.pm_part_laws.specs.Happenings.{Happening, Happens, IsLifeBeside, begins_another, beside, restarts}
-use Rattle.pm_part_laws.specs.OwnWords.{commands}
+use Rattle.pm_part_laws.specs.OwnWords.{commands_beside}
 
 -- the host had a good answer for the cell at one of the later of these happenings
-abbrev pub was_read : Held → ℕ → Cell → List Happening → List Happening → Bool
-was_read held passes cell [] before = false
-was_read held passes cell (one ∷ later) before = answers held passes cell (later ++ before) one || was_read held passes cell later before
+abbrev pub was_read_beside : Held → ℕ → Cell → List Happening → List Happening → Bool
+was_read_beside held passes cell [] before = false
+was_read_beside held passes cell (one ∷ later) before = answers held passes cell (later ++ before) one
+    || was_read_beside held passes cell later before
 
 -- each cell that a survey counts as read was read later
 pub record AreRead (held : Held) (passes : ℕ) (v : Survey) (later before : List Happening) : Type 0 where
   pub registers : (register : Reg) → survey.has_read v.read register ≡ true →
-      was_read held passes (Out v.output register) later before ≡ true
-  pub protect : v.read.protect ≡ true → was_read held passes Protect later before ≡ true
+      was_read_beside held passes (Out v.output register) later before ≡ true
+  pub protect : v.read.protect ≡ true → was_read_beside held passes Protect later before ≡ true
 
 -- the words that an output's registers hold
-abbrev pub held_at : Held → ℕ → List Happening → ℕ → rail.Held
-held_at held passes happened output register = word_at (beside held passes happened).device.words (Out output register)
+abbrev pub held_at_beside : Held → ℕ → List Happening → ℕ → rail.Held
+held_at_beside held passes happened output register = word_at (beside held passes happened).device.words (Out output register)
 
 -- what the cells may hold by what the host knows of a part with these registers, in an output's own format
-abbrev pub cells_at : Held → ℕ → PartRegisters → List Happening → ℕ → Cells
-cells_at held passes part happened output = cells_of part (shape_for held.config output) (beside held passes happened).host
+abbrev pub cells_at_beside : Held → ℕ → PartRegisters → List Happening → ℕ → Cells
+cells_at_beside held passes part happened output = cells_of part (shape_for held.config output) (beside held passes happened).host
 
 -- Each register of an output that is needed, by the word of OPERATION and by what is wanted, is known, and where the part has it the part
 -- didn't restart since the host's last good answer for it.
-abbrev pub AreKnownSince : Held → ℕ → PartRegisters → ℕ → Wants → List Happening → Type 0
-AreKnownSince held passes part output wants happened = (register : Reg) →
-    is_needed (known_of (cells_at held passes part happened output) output) wants register ≡ true →
-    (is_none (known_at (cells_at held passes part happened output) (Out output register)) ≡ false)
+abbrev pub AreKnownSinceBeside : Held → ℕ → PartRegisters → ℕ → Wants → List Happening → Type 0
+AreKnownSinceBeside held passes part output wants happened = (register : Reg) →
+    is_needed (known_of (cells_at_beside held passes part happened output) output) wants register ≡ true →
+    (is_none (known_at (cells_at_beside held passes part happened output) (Out output register)) ≡ false)
     × (missing_word part (shape_for held.config output) register ≡ None →
-    restarted_since held passes (Out output register) happened ≡ false)
+    restarted_since_beside held passes (Out output register) happened ≡ false)
 
 -- the host had no good answer for a register that the part doesn't have, as under a guard of such a part
-abbrev pub MissingUnread : Held → ℕ → PartRegisters → ℕ → List Happening → Type 0
-MissingUnread held passes part output happened = (register : Reg) → has_register part register ≡ false →
-    has_read held passes (Out output register) happened ≡ false
+abbrev pub MissingUnreadBeside : Held → ℕ → PartRegisters → ℕ → List Happening → Type 0
+MissingUnreadBeside held passes part output happened = (register : Reg) → has_register part register ≡ false →
+    host_has_read_beside held passes (Out output register) happened ≡ false
 
 -- a band has one value, and the output commands it
 pub record IsOneValue (band : Band) (held : Held) (passes : ℕ) (happened : List Happening) (output : ℕ) : Type 0 where
-  pub least : band.least ≡ commands held passes happened output
-  pub greatest : band.greatest ≡ commands held passes happened output
+  pub least : band.least ≡ commands_beside held passes happened output
+  pub greatest : band.greatest ≡ commands_beside held passes happened output
 
 -- What a survey counts as read is followed through what happens: of a survey that has read nothing (`begins`), and at the end of a job that
 -- it asked for, which no other job nor a restart of the host came between (`told`); anything else leaves it (`more`).
@@ -87,20 +88,20 @@ pub record SurveysHoldBeside : Type 0 where
   pub words : (held : Held) (passes : ℕ) (part : PartRegisters) (output : ℕ) (wants : Wants) (register : Reg) (happened : List Happening) →
       IsLifeBeside held passes happened → output < held.config.count →
       HoldsMissing part held.config (beside held passes happened).device.words output →
-      AreKnownSince held passes part output wants happened →
-      is_needed (known_of (cells_at held passes part happened output) output) wants register ≡ true →
-      held_at held passes happened output register ≡ known_of (cells_at held passes part happened output) output register
+      AreKnownSinceBeside held passes part output wants happened →
+      is_needed (known_of (cells_at_beside held passes part happened output) output) wants register ≡ true →
+      held_at_beside held passes happened output register ≡ known_of (cells_at_beside held passes part happened output) output register
   pub one : (held : Held) (passes : ℕ) (part : PartRegisters) (output : ℕ) (wants : Wants) (band : Band) (happened : List Happening) →
       IsLifeBeside held passes happened → output < held.config.count →
       HoldsMissing part held.config (beside held passes happened).device.words output →
-      AreKnownSince held passes part output wants happened →
+      AreKnownSinceBeside held passes part output wants happened →
       band_at part (beside held passes happened).host output ≡ Some band → IsOneValue band held passes happened output
   pub known : (held : Held) (passes : ℕ) (part : PartRegisters) (v : Survey) (later before : List Happening) →
       IsLifeBeside held passes (later ++ before) → v.output < held.config.count →
-      MissingUnread held passes part v.output (later ++ before) →
+      MissingUnreadBeside held passes part v.output (later ++ before) →
       AreRead held passes v later before → list_any restarts later ≡ false →
       is_surveyed part v (beside held passes (later ++ before)).host ≡ true →
-      AreKnownSince held passes part v.output (wants_of (wanted_in v.plan)) (later ++ before)
+      AreKnownSinceBeside held passes part v.output (wants_of (wanted_in v.plan)) (later ++ before)
   pub band : (held : Held) (passes : ℕ) (part : PartRegisters) (v : Survey) (later before : List Happening) (band : Band) →
       IsLifeBeside held passes (later ++ before) → v.output < held.config.count →
       AreShort (beside held passes (later ++ before)).device.words v.output →
@@ -109,6 +110,6 @@ pub record SurveysHoldBeside : Type 0 where
       ((register : Reg) → decides (λ r. possible_at (beside held passes (later ++ before)).host (Out v.output r)) register ≡ true →
       possible_at (beside held passes (later ++ before)).host (Out v.output register) ≢ Any →
       survey.has_read v.read register ≡ false →
-      restarted_since held passes (Out v.output register) (later ++ before) ≡ false) →
+      restarted_since_beside held passes (Out v.output register) (later ++ before) ≡ false) →
       band_at part (beside held passes (later ++ before)).host v.output ≡ Some band →
-      InBand band (commands held passes (later ++ before) v.output)
+      InBand band (commands_beside held passes (later ++ before) v.output)

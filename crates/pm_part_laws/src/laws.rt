@@ -7,7 +7,7 @@ ghost use Rattle.pm_part_laws.specs.HonestOrders.{HonestOrdersGoThrough};
 ghost use Rattle.pm_part_laws.specs.Knowledge.{ConfirmedIsHeld, PossibleIsHeld, SeenIsTrue};
 ghost use Rattle.pm_part_laws.specs.LateBelow.{Below};
 ghost use Rattle.pm_part_laws.specs.LateWords.{LateConfirmationsAreHeld, LateWordsAreOwn, LateWordsWerePossible};
-ghost use Rattle.pm_part_laws.specs.Limits.{BandsAreHeld, PartsStayLimited};
+ghost use Rattle.pm_part_laws.specs.Limits.{BandsAreHeldBeside, PartsStayLimited};
 ghost use Rattle.pm_part_laws.specs.Moves.{DiffersNeverTook, PartsMoveByTheOpenJob};
 ghost use Rattle.pm_part_laws.specs.OpenJobs.{OpenJobsEndBeside};
 ghost use Rattle.pm_part_laws.specs.OwnWords.{PartsCommandOwn};
@@ -140,7 +140,7 @@ pub fn limits_beside()
 
 /// What the part commands lies in the band that the host gives, unless the part restarted since the good answers that the band rests on.
 pub fn bands_beside()
-    ensures { BandsAreHeld }
+    ensures { BandsAreHeldBeside }
 {
     same_settings_live_alike();
     lists_say_enough();

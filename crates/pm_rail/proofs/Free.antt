@@ -19,7 +19,7 @@ use Rattle.pm_rail.specs.declared.next.Next.{Next}
 use Rattle.pm_rail.specs.declared.next.Next.TheVariants.{Ended, Job}
 use Rattle.pm_rail.specs.Course.{after_next, is_order, naming, next_of, renewed, says, told_of}
 use Rattle.pm_rail.specs.Lemmas.AskedFree.{asked-free}
-use Rattle.pm_rail.specs.Lemmas.Says.{Names, Said, asks-so, ended-same, orders, reads, renewed-so, off-job, said, says-job, says-reached, says-read, taken}
+use Rattle.pm_rail.specs.Lemmas.Says.{Names, Said, asks-so, ended-same, orders, reads, renewed-so, off-job, says_is_said, says-job, says-reached, says-read, taken}
 use Rattle.pm_rail.specs.Lemmas.Says.{says-busy, says-differs, says-due, says-missing, says-off, says-order}
 
 some-left : (left : ℕ) → (left == 0) ≡ false → 0 < left
@@ -28,7 +28,7 @@ some-left left h = grind (arith, nat_tests)
 -- a job that is named finds a try
 says-left : (part : PartRegisters) (limits : OutputLimits) (s : Summary) (course : Course) (job : Asked) →
     says part limits s course ≡ Job job → 0 < course.survey.left
-says-left part limits s course job is = go (said part limits s course) is where
+says-left part limits s course job is = go (says_is_said part limits s course) is where
   go : {n : Next} → Said part limits s course n → n ≡ Job job → 0 < course.survey.left
   go (says-busy b) e = cc
   go (says-differs d t) e = cc

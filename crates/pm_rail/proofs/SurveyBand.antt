@@ -11,7 +11,7 @@ use Rattle.pm_host.specs.declared.knowledge.Possible.{Possible}
 use Rattle.pm_host.specs.declared.knowledge.Possible.TheVariants.{Any, Words}
 use Rattle.pm_host.specs.Summary.{Summary, format_at, possible_at}
 use Rattle.pm_limits.specs.declared.part_registers.PartRegisters.{PartRegisters}
-use Rattle.pm_limits.specs.Band.{band_at, band_with, known_of, may_select_avsbus, operations, selects_avsbus}
+use Rattle.pm_limits.specs.Band.{band_at, band_with, known_of_output, may_select_avsbus, operations, selects_avsbus}
 use Rattle.pm_rail.specs.declared.survey.Survey.{Survey}
 use Rattle.pm_rail.specs.Known.{known_word}
 use Rattle.pm_rail.specs.Survey.{is_surveyed}
@@ -39,5 +39,5 @@ band part v s is = go (format_at s v.output) refl (format part v s is).1 where
   go : (format : Option Shape) → format_at s v.output ≡ format → is_none format ≡ false → is_none (band_at part s v.output) ≡ false
   go None e n = cc
   go (Some shape) e n = ap₂ (λ (b : Bool) (f : Option Shape). is_none (if b then None else option_map
-      (λ x. band_with x (known_of part x s v.output) (operations (possible_at s (Out v.output Operation)))) f))
+      (λ x. band_with x (known_of_output part x s v.output) (operations (possible_at s (Out v.output Operation)))) f))
       (no-avsbus v.output (possible_at s (Out v.output Operation)) (known part v s shape Operation is e refl).1) e

@@ -115,14 +115,14 @@ ordering course (Ok None) = Ended Reached
 ordering course (Ok (Some order)) = taking course (Order (Out course.survey.output order.register) order.word)
 
 -- what the survey asks for comes first
-abbrev pub reading : PartRegisters → OutputLimits → Summary → Course → Option Asked → Next
-reading part limits s course (Some job) = taking course job
-reading part limits s course None = ordering course (order_next part limits s course)
+abbrev pub survey_or_order : PartRegisters → OutputLimits → Summary → Course → Option Asked → Next
+survey_or_order part limits s course (Some job) = taking course job
+survey_or_order part limits s course None = ordering course (order_next part limits s course)
 
 -- A word that is wanted of a register that the part doesn't have is refused before anything is read.
 abbrev pub reading_for : PartRegisters → OutputLimits → Summary → Course → Option PlanFault → Next
 reading_for part limits s course (Some fault) = Ended (Stopped (Refused fault))
-reading_for part limits s course None = reading part limits s course (due_job part course.survey s)
+reading_for part limits s course None = survey_or_order part limits s course (due_job part course.survey s)
 
 -- A byte that turns the output off is ordered before anything is read, whatever is known, and all is reached once that order
 -- was read back.
@@ -132,7 +132,7 @@ turning_off course byte = if course.done then Ended Reached else taking course (
 abbrev pub going_to : PartRegisters → OutputLimits → Summary → Course → Option ℕ → Next
 going_to part limits s course None =
     reading_for part limits s course (missing_fault part (wants_of (wanted_in course.survey.plan)))
-going_to part limits s course (Some byte) = if has_on byte then reading part limits s course (due_job part course.survey s)
+going_to part limits s course (Some byte) = if has_on byte then survey_or_order part limits s course (due_job part course.survey s)
     else turning_off course byte
 
 -- an order that differed a second time ends it

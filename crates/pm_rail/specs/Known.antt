@@ -10,7 +10,7 @@ use Rattle.pm_host.specs.declared.knowledge.Possible.TheVariants.{Any, Words}
 use Rattle.pm_num.specs.AnyFormat.{Shape}
 use Rattle.pm_host.specs.Summary.{Summary, possible_at}
 use Rattle.pm_limits.specs.declared.part_registers.PartRegisters.{PartRegisters}
-use Rattle.pm_limits.specs.Band.{known_of as register_known}
+use Rattle.pm_limits.specs.Band.{known_of_output as register_known}
 use Rattle.pm_rail.specs.Registers.{Held}
 
 -- what each cell may hold

@@ -26,13 +26,13 @@ use Rattle.pm_rail.specs.declared.survey.Survey.{Survey}
 use Rattle.pm_rail.specs.Course.{after_next, is_order, next_of, told_of}
 use Rattle.pm_rail.specs.Known.{cells_of, known_at, known_of, known_word}
 use Rattle.pm_rail.specs.Orders.{is_needed, order_of, plan_of}
-use Rattle.pm_rail.specs.Plan.{after, commands_by, goal_of, is_cut_by, next_register, stepped}
+use Rattle.pm_rail.specs.Plan.{words_after_orders, commands_by, goal_of, is_cut_by, next_register, words_after_next_order}
 use Rattle.pm_rail.specs.Registers.{Held, Wants, wants_of}
 use Rattle.pm_rail.specs.Survey.{asking, has_read, is_stuck, is_surveyed, next_job, wanted_in}
 
 -- each word has a value with a positive denominator, as in each format
-abbrev pub HasDens : Scale → Type 0
-HasDens value = (word : ℕ) → 0 < (value word).den
+abbrev pub ScaleHasDens : Scale → Type 0
+ScaleHasDens value = (word : ℕ) → 0 < (value word).den
 
 -- what is commanded stays, or becomes what is wanted
 abbrev pub IsStep : Ratio → Ratio → Ratio → Type 0
@@ -47,14 +47,14 @@ would_be_cut value held byte =
 -- any number of them from any moment on (`any`), if the output isn't cut by the words at the end. So it never commands
 -- anything but its first value and its last, and changes once at most.
 pub record PlansAreWithoutGlitch : Type 0 where
-  pub one : (value : Scale) (held : Held) (wants : Wants) → HasDens value → wants Operation ≡ None →
+  pub one : (value : Scale) (held : Held) (wants : Wants) → ScaleHasDens value → wants Operation ≡ None →
       is_cut_by value (goal_of held wants) ≡ false →
       IsStep (commands_by value (goal_of held wants)) (commands_by value held)
-      (commands_by value (stepped value wants held))
-  pub any : (value : Scale) (held : Held) (wants : Wants) (n more : ℕ) → HasDens value → wants Operation ≡ None →
+      (commands_by value (words_after_next_order value wants held))
+  pub any : (value : Scale) (held : Held) (wants : Wants) (n more : ℕ) → ScaleHasDens value → wants Operation ≡ None →
       is_cut_by value (goal_of held wants) ≡ false →
-      IsStep (commands_by value (goal_of held wants)) (commands_by value (after value wants held n))
-      (commands_by value (after value wants (after value wants held n) more))
+      IsStep (commands_by value (goal_of held wants)) (commands_by value (words_after_orders value wants held n))
+      (commands_by value (words_after_orders value wants (words_after_orders value wants held n) more))
 
 -- Each order is of a wanted word that its register doesn't have (`due`); where none is left, each register has its
 -- wanted word (`done`), and that is so after five orders at most (`five`).
@@ -64,7 +64,7 @@ pub record PlansEnd : Type 0 where
   pub done : (value : Scale) (held : Held) (wants : Wants) → wants Operation ≡ None →
       next_register value held wants ≡ None → (register : Reg) → held register ≡ goal_of held wants register
   pub five : (value : Scale) (held : Held) (wants : Wants) → wants Operation ≡ None →
-      (register : Reg) → after value wants held 5 register ≡ goal_of held wants register
+      (register : Reg) → words_after_orders value wants held 5 register ≡ goal_of held wants register
 
 -- The words of the registers that a plan needs are ones that they may hold. A part without VOUT_MIN or VOUT_MAX holds
 -- there the word at which it stands, which never cuts.

@@ -15,7 +15,7 @@ use Rattle.pm_table.specs.Protection.{is_allowed}
 use Rattle.pm_table.specs.Rules.{first, rule}
 use Rattle.pm_model.specs.Commanded.{Scale}
 use Rattle.pm_host.specs.Refusals.{is_busy}
-use Rattle.pm_host.specs.Summary.{Summary, format_at, next}
+use Rattle.pm_host.specs.Summary.{Summary, format_at, host_next}
 use Rattle.pm_host.specs.Transcript.{Accepted, Order}
 use Rattle.pm_limits.specs.declared.part_registers.PartRegisters.{PartRegisters}
 use Rattle.pm_limits.specs.Guard.{Guarded}
@@ -59,11 +59,11 @@ abbrev pub is_wanted_above : Ratio → Scale → Wants → Reg → Bool
 is_wanted_above most value wants register = option_map_or (λ word. is_above (value word) most) (wants register) false
 
 -- L3 for a wanted word below the output's limits, L4 for one above
-abbrev pub below_fault : Ratio → Scale → Wants → Option PlanFault
-below_fault least value wants = first_of voltages (λ register. BelowLimit register) (is_wanted_below least value wants)
+abbrev pub below_limit_fault : Ratio → Scale → Wants → Option PlanFault
+below_limit_fault least value wants = first_of voltages (λ register. BelowLimit register) (is_wanted_below least value wants)
 
-abbrev pub above_fault : Ratio → Scale → Wants → Option PlanFault
-above_fault most value wants = first_of voltages (λ register. AboveLimit register) (is_wanted_above most value wants)
+abbrev pub above_limit_fault : Ratio → Scale → Wants → Option PlanFault
+above_limit_fault most value wants = first_of voltages (λ register. AboveLimit register) (is_wanted_above most value wants)
 
 -- L8 for a wanted word where no limits of the output are known
 abbrev pub is_wanted : Wants → Reg → Bool
@@ -73,7 +73,7 @@ abbrev pub limits_fault : OutputLimits → Scale → Wants → Option PlanFault
 limits_fault Unknown value wants = first_of voltages (λ register. NoLimits register) (is_wanted wants)
 limits_fault Unlimited value wants = None
 limits_fault (Between bounds) value wants =
-    option_or (below_fault (micros bounds.least) value wants) (above_fault (micros bounds.most) value wants)
+    option_or (below_limit_fault (micros bounds.least) value wants) (above_limit_fault (micros bounds.most) value wants)
 
 -- P4 for a register that is needed and isn't known
 abbrev pub is_unknown : Cells → ℕ → Held → Wants → Reg → Bool
@@ -166,5 +166,5 @@ plan_of part s limits output wants = if is_busy s then Err Busy
 abbrev pub Begun : Guarded → ℕ → Option PlanOrder → Guarded → Type 0
 Begun old output None new = new ≡ old
 Begun old output (Some order) new =
-    (new.host ≡ next old.host (Accepted (Order (Out output order.register) order.word)))
+    (new.host ≡ host_next old.host (Accepted (Order (Out output order.register) order.word)))
     × ((new.limits ≡ old.limits) × (new.registers ≡ old.registers))

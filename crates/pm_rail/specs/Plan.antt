@@ -66,11 +66,11 @@ next_register value held wants = first (
     [])
 
 -- the words after the next order took, where there is one
-abbrev pub stepped : Scale → Wants → Held → Held
-stepped value wants held =
+abbrev pub words_after_next_order : Scale → Wants → Held → Held
+words_after_next_order value wants held =
     option_map_or (λ register. put held register (goal_of held wants register)) (next_register value held wants) held
 
 -- the words after this many orders took
-abbrev pub after : Scale → Wants → Held → ℕ → Held
-after value wants held zero = held
-after value wants held (suc n) = stepped value wants (after value wants held n)
+abbrev pub words_after_orders : Scale → Wants → Held → ℕ → Held
+words_after_orders value wants held zero = held
+words_after_orders value wants held (suc n) = words_after_next_order value wants (words_after_orders value wants held n)

@@ -18,12 +18,12 @@ abbrev pub are_on : List ℕ → Bool
 are_on [] = true
 are_on (byte ∷ bytes) = has_on byte && are_on bytes
 
-abbrev pub is_off : ℕ → Bool
-is_off byte = is_operation byte && not (has_on byte)
+abbrev pub is_operation_off : ℕ → Bool
+is_operation_off byte = is_operation byte && not (has_on byte)
 
 abbrev pub are_off : List ℕ → Bool
 are_off [] = true
-are_off (byte ∷ bytes) = is_off byte && are_off bytes
+are_off (byte ∷ bytes) = is_operation_off byte && are_off bytes
 
 -- Whether an output is on, by the bytes that OPERATION may be: not known, if its cell doesn't take one of them.
 abbrev pub power_by : List ℕ → Power

@@ -35,10 +35,10 @@ abbrev pub nothing : Wanted
 nothing = record { command = None; max = None; margin_high = None; margin_low = None; min = None }
 
 -- the words that are wanted, with this one for a register; none is wanted of OPERATION
-abbrev pub with_word : Wanted → Reg → ℕ → Wanted
-with_word w Operation word = w
-with_word w VoutCommand word = record w { command = Some word }
-with_word w VoutMax word = record w { max = Some word }
-with_word w MarginHigh word = record w { margin_high = Some word }
-with_word w MarginLow word = record w { margin_low = Some word }
-with_word w VoutMin word = record w { min = Some word }
+abbrev pub wanted_with_word : Wanted → Reg → ℕ → Wanted
+wanted_with_word w Operation word = w
+wanted_with_word w VoutCommand word = record w { command = Some word }
+wanted_with_word w VoutMax word = record w { max = Some word }
+wanted_with_word w MarginHigh word = record w { margin_high = Some word }
+wanted_with_word w MarginLow word = record w { margin_low = Some word }
+wanted_with_word w VoutMin word = record w { min = Some word }

@@ -86,8 +86,8 @@ is_lacking part cells output held wants register =
 
 -- What is still to be asked for: the format, then what wasn't read since the survey began, then what isn't known, as
 -- after an answer that showed a restart. A plan needs WRITE_PROTECT too. A missing register is never read.
-abbrev pub due_in : PartRegisters → Survey → Cells → Held → Wants → Option Job
-due_in part v cells held wants = first (
+abbrev pub survey_due_in : PartRegisters → Survey → Cells → Held → Wants → Option Job
+survey_due_in part v cells held wants = first (
     rule (not v.learned) (Learn v.output) ∷
     option_map (λ register. Check (Out v.output register)) (find (is_unread part v.read held wants) registers) ∷
     rule (is_some v.plan && not v.read.protect) (Check Protect) ∷
@@ -99,7 +99,7 @@ abbrev pub due_by : PartRegisters → Survey → Summary → Option Shape → Op
 due_by part v s None = Some (Learn v.output)
 due_by part v s (Some shape) =
     let cells = cells_of part shape s in
-    due_in part v cells (known_of cells v.output) (wants_of (wanted_in v.plan))
+    survey_due_in part v cells (known_of cells v.output) (wants_of (wanted_in v.plan))
 
 abbrev pub due_job : PartRegisters → Survey → Summary → Option Job
 due_job part v s = due_by part v s (format_at s v.output)

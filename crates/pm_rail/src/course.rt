@@ -4,7 +4,7 @@ ghost use Rattle.std.specs.Prelude.{◌≡◌, ◌<◌, None, Some};
 ghost use Rattle.pm_host.specs.Image.{held};
 ghost use Rattle.pm_limits.specs.Guard.{limits_at};
 ghost use Rattle.pm_rail.specs.Survey.{due_job};
-ghost use Rattle.pm_rail.specs.Course.{BeginsNext, after_next, course_of, going_to, is_carried_out as spec_is_carried_out, is_operation_known as spec_is_operation_known, next_of, once_more as spec_once_more, order_next as spec_order_next, ordering, power_course_of, power_next as spec_power_next, reading, renewed, says as spec_says, survey_course_of, taking, told_of};
+ghost use Rattle.pm_rail.specs.Course.{BeginsNext, after_next, course_of, going_to, is_carried_out as spec_is_carried_out, is_operation_known as spec_is_operation_known, next_of, once_more as spec_once_more, order_next as spec_order_next, ordering, power_course_of, power_next as spec_power_next, survey_or_order, renewed, says as spec_says, survey_course_of, taking, told_of};
 
 use crate::apply_end::{ApplyEnd, StopCause};
 use crate::fault::PlanFault;
@@ -283,7 +283,7 @@ impl Course {
     fn reading(&self, host: &State, part: PartRegisters, limits: &OutputLimits) -> Next
         requires { self.now.survey.output < 8 }
         ensures { let s = held None host.now in
-            result ≡ reading part limits.now s self.now (due_job part self.now.survey s) }
+            result ≡ survey_or_order part limits.now s self.now (due_job part self.now.survey s) }
     {
         match self.survey.due(host, part) {
             Some(job) => self.taking(job),

@@ -7,7 +7,7 @@ ghost use Rattle.pm_limits.specs.Band.{band_at, within_of};
 ghost use Rattle.pm_limits.specs.Guard.{limits_at};
 ghost use Rattle.std.specs.List.{list_all};
 ghost use Rattle.pm_limits.specs.Band.{selects_avsbus as spec_selects_avsbus};
-ghost use Rattle.pm_rail.specs.Rail.{are_off as spec_are_off, are_on as spec_are_on, is_off as spec_is_off, power_by as spec_power_by, power_of as spec_power_of};
+ghost use Rattle.pm_rail.specs.Rail.{are_off as spec_are_off, are_on as spec_are_on, is_operation_off as spec_is_off, power_by as spec_power_by, power_of as spec_power_of};
 ghost use Rattle.pm_rail.specs.Rail.{selected_by as spec_selected_by, selected_of as spec_selected_of, selects as spec_selects};
 
 use pm_host::State;

@@ -6,7 +6,7 @@ ghost use Rattle.pm_num.specs.Ratio.{is_above as spec_is_above, micros};
 ghost use Rattle.pm_table.specs.Cell.{registers};
 ghost use Rattle.pm_host.specs.Image.{held as state_held};
 ghost use Rattle.pm_rail.specs.Known.{cells_of};
-ghost use Rattle.pm_rail.specs.Orders.{above_fault, below_fault, is_above_max as spec_is_above_max, is_below_min as spec_is_below_min, is_meant as spec_is_meant, is_unknown as spec_is_unknown, is_wanted_missing as spec_is_wanted_missing, missing_fault, is_needed as spec_is_needed, is_protected as spec_is_protected, first_of, is_wanted as spec_is_wanted, is_wanted_above as spec_is_wanted_above, is_wanted_below as spec_is_wanted_below, limits_fault, voltages, planned_fault, protection_fault, unknown_fault, words_fault};
+ghost use Rattle.pm_rail.specs.Orders.{above_limit_fault, below_limit_fault, is_above_max as spec_is_above_max, is_below_min as spec_is_below_min, is_meant as spec_is_meant, is_unknown as spec_is_unknown, is_wanted_missing as spec_is_wanted_missing, missing_fault, is_needed as spec_is_needed, is_protected as spec_is_protected, first_of, is_wanted as spec_is_wanted, is_wanted_above as spec_is_wanted_above, is_wanted_below as spec_is_wanted_below, limits_fault, voltages, planned_fault, protection_fault, unknown_fault, words_fault};
 ghost use Rattle.pm_rail.specs.Plan.{next_register};
 ghost use Rattle.pm_rail.specs.Registers.{held_by, wants_of};
 
@@ -108,7 +108,7 @@ fn is_wanted(wanted: &Wanted, register: Reg) -> bool
 
 // L3: the first register of which a lower word is wanted.
 fn refuse_below(least: &Frac, format: &VoltageFormat, wanted: &Wanted) -> Option<PlanFault>
-    ensures { result ≡ below_fault least.now (voltage_value format.now) (wants_of wanted.now) }
+    ensures { result ≡ below_limit_fault least.now (voltage_value format.now) (wants_of wanted.now) }
 {
     if is_wanted_below(least, format, wanted, Reg::VoutCommand) {
         Some(PlanFault::BelowLimit(Reg::VoutCommand))
@@ -127,7 +127,7 @@ fn refuse_below(least: &Frac, format: &VoltageFormat, wanted: &Wanted) -> Option
 
 // L4: the first register of which a higher word is wanted.
 fn refuse_above(most: &Frac, format: &VoltageFormat, wanted: &Wanted) -> Option<PlanFault>
-    ensures { result ≡ above_fault most.now (voltage_value format.now) (wants_of wanted.now) }
+    ensures { result ≡ above_limit_fault most.now (voltage_value format.now) (wants_of wanted.now) }
 {
     if is_wanted_above(most, format, wanted, Reg::VoutCommand) {
         Some(PlanFault::AboveLimit(Reg::VoutCommand))

@@ -6,7 +6,7 @@ ghost use Rattle.pm_table.specs.Cell.{registers};
 ghost use Rattle.pm_host.specs.Image.{held};
 ghost use Rattle.pm_rail.specs.Known.{cells_of, known_or as spec_known_or};
 ghost use Rattle.pm_rail.specs.Registers.{held_by, wants_of};
-ghost use Rattle.pm_rail.specs.Survey.{and_read, asking, due_by as spec_due_by, due_in as spec_due_in, due_job, ended, has_read, is_stuck as spec_is_stuck, is_stuck_by as spec_is_stuck_by, is_surveyed, is_unread as spec_is_unread, next_job, nothing_read, survey_of, wanted_in};
+ghost use Rattle.pm_rail.specs.Survey.{and_read, asking, due_by as spec_due_by, survey_due_in as spec_due_in, due_job, ended, has_read, is_stuck as spec_is_stuck, is_stuck_by as spec_is_stuck_by, is_surveyed, is_unread as spec_is_unread, next_job, nothing_read, survey_of, wanted_in};
 
 use crate::known::{OutputForm, known_at, known_or};
 use crate::missing::{first_unsure, is_stuck_in};

@@ -20,7 +20,7 @@ pub struct Wanted {
 }
 
 impl Wanted {
-    ghost use Rattle.pm_rail.specs.Registers.{nothing as nothing_wanted, wants_of, with_word};
+    ghost use Rattle.pm_rail.specs.Registers.{nothing as nothing_wanted, wants_of, wanted_with_word};
 
     /// No word: each register is to stay as it is.
     pub fn nothing() -> Wanted
@@ -37,7 +37,7 @@ impl Wanted {
 
     /// The wanted words with this one for a register; none is wanted of OPERATION, which stays as it is.
     pub fn with(self, register: Reg, word: u16) -> Wanted
-        ensures { result ≡ with_word self register word }
+        ensures { result ≡ wanted_with_word self register word }
     {
         let mut more = self;
         match register {

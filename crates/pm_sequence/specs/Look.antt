@@ -79,47 +79,47 @@ counted_there l =
       probe = probe_over l.probe;
     }
 
-abbrev pub counted : Look → Look
-counted l = if l.probe.is_there then counted_there l else record l { probe = probe_over l.probe }
+abbrev pub look_counted : Look → Look
+look_counted l = if l.probe.is_there then counted_there l else record l { probe = probe_over l.probe }
 
 -- what comes next, where this is due of the delivery
-abbrev pub over_act : Due → LookAct
-over_act due.Again = act.Pause
-over_act due.Nothing = act.Over
-over_act (due.Ask question) = act.Over
+abbrev pub look_over_act : Due → LookAct
+look_over_act due.Again = act.Pause
+look_over_act due.Nothing = act.Over
+look_over_act (due.Ask question) = act.Over
 
-abbrev pub over_after : Look → Due → Look
-over_after l due.Again = record l { delivery = again l.delivery; probe = new_probe }
-over_after l due.Nothing = l
-over_after l (due.Ask question) = l
+abbrev pub look_over_after : Look → Due → Look
+look_over_after l due.Again = record l { delivery = again l.delivery; probe = new_probe }
+look_over_after l due.Nothing = l
+look_over_after l (due.Ask question) = l
 
 -- An output that is commanded on, and whose OPERATION leaves it off: its part came up anew, or another one orders.
-abbrev pub is_lost : Look → Bool
-is_lost l = looks_on l.delivery && l.probe.is_off
+abbrev pub is_output_lost : Look → Bool
+is_output_lost l = looks_on l.delivery && l.probe.is_off
 
 abbrev pub found_act : Bool → Due → LookAct
-found_act lost due = if lost then act.Restarted else over_act due
+found_act lost due = if lost then act.Restarted else look_over_act due
 
 abbrev pub found_after : Bool → Look → Due → Look
-found_after lost l due = if lost then l else over_after l due
+found_after lost l due = if lost then l else look_over_after l due
 
 abbrev pub round_act : Look → ℕ → Due → LookAct
 round_act l passes due = if asks_operation l && not l.probe.is_over then (if probe_due passes l then act.Probe else act.Again)
-    else found_act (is_lost l) due
+    else found_act (is_output_lost l) due
 
 abbrev pub round_after : Look → ℕ → Due → Look
-round_after l passes due = if asks_operation l && not l.probe.is_over then (if probe_due passes l then l else counted l)
-    else found_after (is_lost l) l due
+round_after l passes due = if asks_operation l && not l.probe.is_over then (if probe_due passes l then l else look_counted l)
+    else found_after (is_output_lost l) l due
 
 abbrev pub look_act : Look → ℕ → Due → LookAct
 look_act l passes (due.Ask question) = act.Ask question
 look_act l passes due.Again = round_act l passes due.Again
 look_act l passes due.Nothing = round_act l passes due.Nothing
 
-abbrev pub look_after : Look → ℕ → Due → Look
-look_after l passes (due.Ask question) = l
-look_after l passes due.Again = round_after l passes due.Again
-look_after l passes due.Nothing = round_after l passes due.Nothing
+abbrev pub look_after_due : Look → ℕ → Due → Look
+look_after_due l passes (due.Ask question) = l
+look_after_due l passes due.Again = round_after l passes due.Again
+look_after_due l passes due.Nothing = round_after l passes due.Nothing
 
 -- what came back for a question
 abbrev pub noticed : Look → Question → Look
@@ -137,12 +137,12 @@ noticed l StatusTemperature = l
 noticed l PowerGoodOn = l
 noticed l PowerGoodOff = l
 
-abbrev pub heard_as : Look → Question → Result ℕ ℕ → Look
-heard_as l question answer =
+abbrev pub look_heard : Look → Question → Result ℕ ℕ → Look
+look_heard l question answer =
     record l { delivery = with_heard l.delivery question (heard_after (heard_of l.delivery question) answer) }
 
-abbrev pub answered : Look → Question → Result ℕ ℕ → Bool → Look
-answered l question answer silence = if silence then heard_as l question answer else noticed (heard_as l question answer) question
+abbrev pub look_answered : Look → Question → Result ℕ ℕ → Bool → Look
+look_answered l question answer silence = if silence then look_heard l question answer else noticed (look_heard l question answer) question
 
 -- what came back for the read of OPERATION: nothing at all, or an answer that leaves the output off, or another one
 abbrev pub probed : Look → Bool → Bool → Look

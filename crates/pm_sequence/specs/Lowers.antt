@@ -20,7 +20,7 @@ use Rattle.pm_rail.specs.Registers.{wants_of}
 use Rattle.pm_stairs.specs.declared.stairs.Under.{Under}
 use Rattle.pm_stairs.specs.declared.step.WordAct.{WordAct}
 use Rattle.pm_stairs.specs.declared.step.WordAct.TheVariants.{Sets, Turns, Nothing}
-use Rattle.pm_stairs.specs.WayBack.{goal_at}
+use Rattle.pm_stairs.specs.WayBack.{goal_of_step}
 
 -- the register that has an output's voltage once a step is over: the one that its byte selects, or that OPERATION selects as it is
 abbrev pub register_by : Selected → Option Reg
@@ -36,7 +36,8 @@ register_after s output Nothing = None
 -- the word that the step gives that register, or that a byte selects which it turns the output to
 abbrev pub word_after : Summary → ℕ → WordAct → Option ℕ
 word_after s output act =
-    option_and_then (λ words. option_and_then (λ register. wants_of words register) (register_after s output act)) (goal_at s output act)
+    option_and_then (λ words. option_and_then (λ register. wants_of words register) (register_after s output act))
+    (goal_of_step s output act)
 
 -- a word is below the most that the output may command
 abbrev pub is_lower : Option Band → Option Shape → ℕ → Bool

@@ -24,7 +24,7 @@ use Rattle.pm_delivery.specs.declared.verdict.Verdict.{Verdict}
 use Rattle.pm_delivery.specs.declared.verdict.Verdict.TheVariants as verdict
 use Rattle.pm_delivery.specs.Deliveries.{looking_after}
 use Rattle.pm_delivery.specs.Due.{due_of}
-use Rattle.pm_delivery.specs.Ended.{verdict_of}
+use Rattle.pm_delivery.specs.Ended.{delivery_verdict_of}
 use Rattle.pm_delivery.specs.Reading.{reading_in}
 use Rattle.pm_stairs.specs.declared.said.StepEnd.{StepEnd}
 use Rattle.pm_stairs.specs.declared.said.StepEnd.TheVariants.{Course, Changed, Restarted}
@@ -35,7 +35,7 @@ use Rattle.pm_stairs.specs.declared.sequence.Turn.TheVariants as turn
 use Rattle.pm_stairs.specs.declared.stairs.Under.{Under}
 use Rattle.pm_stairs.specs.declared.step.WordStep.{WordStep}
 use Rattle.pm_stairs.specs.OpenCourse.{course_open}
-use Rattle.pm_stairs.specs.Sequence.{Turns, heard_with, one_more, sequence_new, skipped}
+use Rattle.pm_stairs.specs.Sequence.{Turns, heard_with, one_step_more, sequence_new, skipped}
 use Rattle.pm_sequence.specs.declared.sequence.Fresh.{Fresh}
 use Rattle.pm_sequence.specs.declared.sequence.Fresh.TheVariants as fresh
 use Rattle.pm_sequence.specs.declared.gate.Gate.{Gate}
@@ -52,8 +52,8 @@ use Rattle.pm_sequence.specs.declared.sequence.Phase.TheVariants as phase
 use Rattle.pm_sequence.specs.declared.sequence.Rules.{Rules}
 use Rattle.pm_sequence.specs.declared.sequence.Sequence.{Sequence}
 use Rattle.pm_sequence.specs.declared.step.Step.{Step}
-use Rattle.pm_sequence.specs.Gate.{is_on_order, is_order, is_untold, order_gate, step_gate}
-use Rattle.pm_sequence.specs.Look.{look_act, look_after, looking, new_probe}
+use Rattle.pm_sequence.specs.Gate.{is_on_order, is_job_order, is_untold, order_gate, step_gate}
+use Rattle.pm_sequence.specs.Look.{look_act, look_after_due, looking, new_probe}
 use Rattle.pm_sequence.specs.Lowers.{lowers}
 use Rattle.pm_sequence.specs.Steps.{before_of, is_of, is_unreadable, new_of, same_heard, turns_off}
 use Rattle.pm_delivery.specs.Deliveries.{new_delivery}
@@ -122,9 +122,9 @@ gate g q step job list begins =
     twice_gate (had_two q begins) job (fresh_gate q.fresh (begins || list.stairs.reading) job (judged_gate g q step job list.stairs.under))
 
 -- what stands before the first order of a step's output is looked at
-abbrev pub look_before : Sequence → Option Step → Sequence
-look_before q None = q
-look_before q (Some step) = record q {
+abbrev pub look_before_step : Sequence → Option Step → Sequence
+look_before_step q None = q
+look_before_step q (Some step) = record q {
   look = looking (before_of step);
   look_host = step.placed.host;
   is_read = false;
@@ -137,7 +137,7 @@ look_before q (Some step) = record q {
 abbrev pub left_out : Sequence → Sequence
 left_out q = record q {
   list = skipped q.list;
-  left = one_more q.left;
+  left = one_step_more q.left;
   phase = phase.Steps;
   is_shown = false;
   is_waited = false;
@@ -146,13 +146,13 @@ left_out q = record q {
   fresh = fresh.Nothing;
 }
 
-abbrev pub is_restart : StepEnd → Bool
-is_restart Restarted = true
-is_restart Changed = false
-is_restart (Course why) = false
+abbrev pub ended_by_restart : StepEnd → Bool
+ended_by_restart Restarted = true
+ended_by_restart Changed = false
+ended_by_restart (Course why) = false
 
 abbrev pub may_leave : End → Bool
-may_leave (end.Stopped why) = not (is_restart why)
+may_leave (end.Stopped why) = not (ended_by_restart why)
 may_leave why = true
 
 abbrev pub stopped_act : Sequence → End → Act
@@ -212,23 +212,23 @@ ordered_after q job list = record q {
 }
 
 abbrev pub job_after : Sequence → Job → List → Sequence
-job_after q job list = if is_order job then ordered_after q job list else read_after q list
+job_after q job list = if is_job_order job then ordered_after q job list else read_after q list
 
 -- a job that is named so has begun: with the first order of a step that begins
-abbrev pub begun_as : Guarded → Sequence → Act → Job → Sequence
-begun_as g q (act.Begins first back) job = begun_by g q job q.list
-begun_as g q (act.Job named) job = job_after q job q.list
-begun_as g q (act.Passes back) job = job_after q job q.list
-begun_as g q (act.Order named) job = job_after q job q.list
-begun_as g q (act.Ask question) job = job_after q job q.list
-begun_as g q act.Probe job = job_after q job q.list
-begun_as g q act.Pause job = job_after q job q.list
-begun_as g q (act.Wait milliseconds) job = job_after q job q.list
-begun_as g q act.Again job = job_after q job q.list
-begun_as g q (act.NoWayBack fault) job = job_after q job q.list
-begun_as g q (act.Does found) job = job_after q job q.list
-begun_as g q (act.Leaves why) job = job_after q job q.list
-begun_as g q (act.Ended why) job = job_after q job q.list
+abbrev pub job_begun_as : Guarded → Sequence → Act → Job → Sequence
+job_begun_as g q (act.Begins first back) job = begun_by g q job q.list
+job_begun_as g q (act.Job named) job = job_after q job q.list
+job_begun_as g q (act.Passes back) job = job_after q job q.list
+job_begun_as g q (act.Order named) job = job_after q job q.list
+job_begun_as g q (act.Ask question) job = job_after q job q.list
+job_begun_as g q act.Probe job = job_after q job q.list
+job_begun_as g q act.Pause job = job_after q job q.list
+job_begun_as g q (act.Wait milliseconds) job = job_after q job q.list
+job_begun_as g q act.Again job = job_after q job q.list
+job_begun_as g q (act.NoWayBack fault) job = job_after q job q.list
+job_begun_as g q (act.Does found) job = job_after q job q.list
+job_begun_as g q (act.Leaves why) job = job_after q job q.list
+job_begun_as g q (act.Ended why) job = job_after q job q.list
 
 -- an act by which the first step ahead begins with its order
 abbrev pub is_begin : Act → Bool
@@ -254,12 +254,12 @@ abbrev pub asked_of : Sequence → List → Bool → Sequence
 asked_of q named begins = with_list q (asked_list q.list named begins)
 
 -- nothing begins, and the survey of the course that named the job begins anew
-abbrev pub anew : FrameCourse → FrameCourse
-anew course = record course { course = once_more course.course }
+abbrev pub survey_begun_anew : FrameCourse → FrameCourse
+survey_begun_anew course = record course { course = once_more course.course }
 
 abbrev pub afresh_by : List → Option FrameCourse → List
 afresh_by list None = list
-afresh_by list (Some course) = heard_with list (anew course) false
+afresh_by list (Some course) = heard_with list (survey_begun_anew course) false
 
 abbrev pub afresh : List → List
 afresh list = afresh_by list (course_open list.stairs)
@@ -289,7 +289,7 @@ gated_act q gate_is.Twice job said = stopped_act q (spent_end q)
 
 abbrev pub gated_after : Sequence → Option Step → Gate → Job → Sequence → Sequence
 gated_after q step gate_is.Goes job after = if is_untold q.asks q.told job then told_with q job else after
-gated_after q step gate_is.Looks job after = look_before q step
+gated_after q step gate_is.Looks job after = look_before_step q step
 gated_after q step (gate_is.Beyond fault) job after = stopped_after q (end.Beyond fault)
 gated_after q step gate_is.Unjudged job after = stopped_after q end.Unjudged
 gated_after q step gate_is.Blind job after = afresh_with q
@@ -313,8 +313,8 @@ looking_at q step = record q {
   phase = phase.After;
 }
 
-abbrev pub end_of : ℕ → End
-end_of left = if left == 0 then end.Reached else end.Left left
+abbrev pub list_end_of : ℕ → End
+list_end_of left = if left == 0 then end.Reached else end.Left left
 
 -- all of the step under way is over: the next one is shown once its wait is over
 abbrev pub step_act : Sequence → Step → Act
@@ -324,11 +324,11 @@ abbrev pub step_after : Sequence → Step → Sequence
 step_after q step = if step.wait == 0 || q.is_waited then record q { is_shown = true } else record q { is_waited = true; fresh = fresh.Nothing }
 
 abbrev pub ahead_act : Sequence → Option Step → Act
-ahead_act q None = act.Ended (end_of q.left)
+ahead_act q None = act.Ended (list_end_of q.left)
 ahead_act q (Some step) = step_act q step
 
 abbrev pub ahead_after : Sequence → Option Step → Sequence
-ahead_after q None = record q { end = Some (end_of q.left) }
+ahead_after q None = record q { end = Some (list_end_of q.left) }
 ahead_after q (Some step) = step_after q step
 
 abbrev pub over_act : Sequence → Option Step → Option Step → Act
@@ -381,17 +381,17 @@ pub data Steps (g : Guarded) (under ahead : Option Step) (old : Sequence) : Act 
 abbrev pub power_in : Summary → ℕ → Power
 power_in s output = power_of (possible_at s (Out output Operation))
 
-abbrev pub due_by : PartRegisters → OutputLimits → Summary → Delivery → Due
-due_by part limits s d = due_of d s.setup.passes (power_in s d.output) (reading_in part limits s d)
+abbrev pub delivery_due_by : PartRegisters → OutputLimits → Summary → Delivery → Due
+delivery_due_by part limits s d = due_of d s.setup.passes (power_in s d.output) (reading_in part limits s d)
 
-abbrev pub verdict_by : PartRegisters → OutputLimits → Summary → Delivery → Verdict
-verdict_by part limits s d = verdict_of d s.setup.passes (power_in s d.output) (reading_in part limits s d)
+abbrev pub delivery_verdict_by : PartRegisters → OutputLimits → Summary → Delivery → Verdict
+delivery_verdict_by part limits s d = delivery_verdict_of d s.setup.passes (power_in s d.output) (reading_in part limits s d)
 
 abbrev pub due_in : Guarded → Delivery → Due
-due_in g d = if nat_lt d.output 8 then due_by g.registers (limits_at g d.output) g.host d else due.Nothing
+due_in g d = if nat_lt d.output 8 then delivery_due_by g.registers (limits_at g d.output) g.host d else due.Nothing
 
 abbrev pub verdict_in : Guarded → Delivery → Verdict
-verdict_in g d = if nat_lt d.output 8 then verdict_by g.registers (limits_at g d.output) g.host d else verdict.NotYet
+verdict_in g d = if nat_lt d.output 8 then delivery_verdict_by g.registers (limits_at g d.output) g.host d else verdict.NotYet
 
 -- The rail does what it is to: it delivers, or went off. One that isn't commanded on isn't asked, and one of which nothing can be read, as the
 -- caller says, can't be; they do where the step doesn't have to deliver.
@@ -411,35 +411,36 @@ is_good_by step verdict.NoPowerGood = false
 is_good_by step (verdict.NotKnown register fault) = is_unreadable step && not step.looks.must_deliver
 is_good_by step verdict.StillOn = false
 
-abbrev pub is_good : Option Step → Verdict → Bool
-is_good None verdict = false
-is_good (Some step) verdict = is_good_by step verdict
+abbrev pub is_verdict_good : Option Step → Verdict → Bool
+is_verdict_good None verdict = false
+is_verdict_good (Some step) verdict = is_good_by step verdict
 
 -- what stands before was read; or the rail of the step that is over does this
 abbrev pub before_after : Sequence → Sequence
 before_after q = record q { phase = phase.Steps; is_read = true }
 
 abbrev pub done_act : Sequence → Option Step → Verdict → Act
-done_act q under said = if is_good under said then act.Does said else stopped_act q (end.Does said)
+done_act q under said = if is_verdict_good under said then act.Does said else stopped_act q (end.Does said)
 
 abbrev pub done_after : Sequence → Option Step → Verdict → Sequence
-done_after q under said = if is_good under said then record q { phase = phase.Steps; is_looked = true } else stopped_after q (end.Does said)
+done_after q under said = if is_verdict_good under said then record q { phase = phase.Steps; is_looked = true }
+    else stopped_after q (end.Does said)
 
 abbrev pub found_in : Phase → Sequence → Option Step → Verdict → Act
 found_in phase.Before q under said = act.Again
 found_in phase.Steps q under said = done_act q under said
 found_in phase.After q under said = done_act q under said
 
-abbrev pub judged_in : Phase → Sequence → Option Step → Verdict → Sequence
-judged_in phase.Before q under said = before_after q
-judged_in phase.Steps q under said = done_after q under said
-judged_in phase.After q under said = done_after q under said
+abbrev pub judged_in_phase : Phase → Sequence → Option Step → Verdict → Sequence
+judged_in_phase phase.Before q under said = before_after q
+judged_in_phase phase.Steps q under said = done_after q under said
+judged_in_phase phase.After q under said = done_after q under said
 
 abbrev pub found_at : Sequence → Option Step → Verdict → Act
 found_at q under said = found_in q.phase q under said
 
 abbrev pub judged_after : Sequence → Option Step → Verdict → Sequence
-judged_after q under said = judged_in q.phase q under said
+judged_after q under said = judged_in_phase q.phase q under said
 
 abbrev pub said_act : Guarded → Sequence → Option Step → LookAct → Act
 said_act g q under (look.Ask question) = act.Ask question
@@ -464,12 +465,12 @@ with_look q l = record q { look = l; fresh = fresh.Nothing }
 abbrev pub looked_act : Guarded → Sequence → Option Step → Act
 looked_act g q under =
     let due = due_in g q.look.delivery in
-    said_act g (with_look q (look_after q.look g.host.setup.passes due)) under (look_act q.look g.host.setup.passes due)
+    said_act g (with_look q (look_after_due q.look g.host.setup.passes due)) under (look_act q.look g.host.setup.passes due)
 
 abbrev pub looked_after : Guarded → Sequence → Option Step → Sequence
 looked_after g q under =
     let due = due_in g q.look.delivery in
-    said_after g (with_look q (look_after q.look g.host.setup.passes due)) under (look_act q.look g.host.setup.passes due)
+    said_after g (with_look q (look_after_due q.look g.host.setup.passes due)) under (look_act q.look g.host.setup.passes due)
 
 -- ---- What comes next ----
 

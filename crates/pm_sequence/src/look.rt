@@ -2,7 +2,7 @@
 
 ghost use Rattle.std.specs.Prelude.{◌≡◌};
 ghost use Rattle.pm_delivery.specs.Heard.{asked_more};
-ghost use Rattle.pm_sequence.specs.Look.{answered as spec_answered, asks_operation as spec_asks_operation, is_lost as spec_is_lost, counted as spec_counted, is_silence as spec_is_silence, is_silent as spec_is_silent, is_silent_status as spec_is_silent_status, is_silent_vout as spec_is_silent_vout, lacks as spec_lacks, look_act, look_after, looking, more as spec_more, new_probe, over_act, probe_due as spec_probe_due, probed as spec_probed, round_act, round_after, status_heard as spec_status_heard};
+ghost use Rattle.pm_sequence.specs.Look.{look_answered as spec_answered, asks_operation as spec_asks_operation, is_output_lost as spec_is_lost, look_counted as spec_counted, is_silence as spec_is_silence, is_silent as spec_is_silent, is_silent_status as spec_is_silent_status, is_silent_vout as spec_is_silent_vout, lacks as spec_lacks, look_act, look_after_due, looking, more as spec_more, new_probe, look_over_act, probe_due as spec_probe_due, probed as spec_probed, round_act, round_after, status_heard as spec_status_heard};
 
 use pm_delivery::{
     Delivery, Due, FOUND_NO_READ_VOUT, FOUND_NO_STATUS_WORD, Heard, LOOK_BEFORE, NO_ANSWER,
@@ -87,7 +87,7 @@ impl Look {
     /// What comes next, if the delivery's due is this and each question is asked at most so often.
     pub(crate) fn next(&mut self, passes: u8, due: Due) -> LookAct
         ensures act { result ≡ look_act self.old passes due }
-        ensures after { self.new ≡ look_after self.old passes due }
+        ensures after { self.new ≡ look_after_due self.old passes due }
     {
         match due {
             Due::Ask(question) => LookAct::Ask(question),

@@ -3,8 +3,8 @@
 ghost use Rattle.std.specs.Prelude.{◌≡◌, ◌<◌, None};
 ghost use Rattle.std.specs.Option.{option_copied};
 ghost use Rattle.pm_host.specs.Image.{held};
-ghost use Rattle.pm_stairs.specs.Sequence.{one_more as spec_one_more};
-ghost use Rattle.pm_sequence.specs.Sequence.{act_of, after_of, afresh_with, ahead_act, ahead_after, anew, asked_of, begun_as, begun_with, due_by, due_in as spec_due_in, end_of as spec_end_of, found_at, fresh_after, gate as spec_gate, gated_act, gated_after, had_two as spec_had_two, is_at as spec_is_at, is_begin as spec_is_begin, is_fresh as spec_is_fresh, is_good as spec_is_good, is_read_for as spec_is_read_for, job_after, judged_after, judged_gate, look_before, looked_act, looked_after, may_leave as spec_may_leave, needs_look as spec_needs_look, new_sequence, on_count as spec_on_count, reached_act, reached_after, shown as spec_shown, spent_end as spec_spent_end, stopped_act, stopped_after, verdict_by, verdict_in as spec_verdict_in, with_list, Acts, Steps};
+ghost use Rattle.pm_stairs.specs.Sequence.{one_step_more as spec_one_more};
+ghost use Rattle.pm_sequence.specs.Sequence.{act_of, after_of, afresh_with, ahead_act, ahead_after, survey_begun_anew, asked_of, job_begun_as, begun_with, delivery_due_by, due_in as spec_due_in, list_end_of as spec_end_of, found_at, fresh_after, gate as spec_gate, gated_act, gated_after, had_two as spec_had_two, is_at as spec_is_at, is_begin as spec_is_begin, is_fresh as spec_is_fresh, is_verdict_good as spec_is_good, is_read_for as spec_is_read_for, job_after, judged_after, judged_gate, look_before_step, looked_act, looked_after, may_leave as spec_may_leave, needs_look as spec_needs_look, new_sequence, on_count as spec_on_count, reached_act, reached_after, shown as spec_shown, spent_end as spec_spent_end, stopped_act, stopped_after, delivery_verdict_by, verdict_in as spec_verdict_in, with_list, Acts, Steps};
 
 use crate::gate::{Gate, is_judged_order, is_on_order, is_order, is_untold, judge};
 use crate::look::{Look, LookAct};
@@ -324,7 +324,7 @@ impl Sequence {
     ) -> Act
         ensures act { result ≡ gated_act (asked_of (with_list self.old was.now) self.old.list (spec_is_begin act)) gate job act }
         ensures after { self.new ≡ gated_after (asked_of (with_list self.old was.now) self.old.list (spec_is_begin act)) step.now gate job
-            (begun_as (S.guarded guard.now) self.old act job) }
+            (job_begun_as (S.guarded guard.now) self.old act job) }
     {
         match gate {
             Gate::Goes => {
@@ -401,7 +401,7 @@ impl Sequence {
 
     // A job begins, as the first order of a step or otherwise.
     fn begins_as<S: Sight>(&mut self, guard: &S, act: &Act, job: Job)
-        ensures { self.new ≡ begun_as (S.guarded guard.now) self.old act.now job }
+        ensures { self.new ≡ job_begun_as (S.guarded guard.now) self.old act.now job }
     {
         match act {
             Act::Begins(..) => {
@@ -415,7 +415,7 @@ impl Sequence {
 
     // What stands before the first order of a step's output is looked at.
     fn look_before(&mut self, step: &Option<Step>)
-        ensures { self.new ≡ look_before self.old step.now }
+        ensures { self.new ≡ look_before_step self.old step.now }
     {
         let Some(step) = step else {
             return;
@@ -656,7 +656,7 @@ fn kept_fresh(fresh: Fresh, of_ahead: bool) -> Fresh
 
 // A course of which all is to be read once more.
 fn surveyed_anew(course: FrameCourse) -> FrameCourse
-    ensures { result ≡ anew course }
+    ensures { result ≡ survey_begun_anew course }
 {
     let mut renewed = course;
     let survey = &course.course.survey;
@@ -675,7 +675,7 @@ fn may_leave(end: End) -> bool
 // What is due of a delivery, by what is seen of a host.
 fn due_seen(delivery: &Delivery, host: &State, part: PartRegisters, limits: &OutputLimits) -> Due
     requires { delivery.now.output < 8 }
-    ensures { result ≡ due_by part limits.now (held None host.now) delivery.now }
+    ensures { result ≡ delivery_due_by part limits.now (held None host.now) delivery.now }
 {
     let reading = delivery.reading(host, part, limits);
     delivery.due(host.passes, power_in(host, delivery.output), reading)
@@ -689,7 +689,7 @@ fn verdict_seen(
     limits: &OutputLimits,
 ) -> Verdict
     requires { delivery.now.output < 8 }
-    ensures { result ≡ verdict_by part limits.now (held None host.now) delivery.now }
+    ensures { result ≡ delivery_verdict_by part limits.now (held None host.now) delivery.now }
 {
     let reading = delivery.reading(host, part, limits);
     delivery.verdict(host.passes, power_in(host, delivery.output), reading)

@@ -31,10 +31,10 @@ use Rattle.pm_stairs.specs.{declared.stairs.Under.Under, declared.step.Act.Act, 
 use Rattle.pm_stairs.specs.{declared.step.WordStep.WordStep}
 use Rattle.pm_rail.specs.declared.course.Course.{Course}
 use Rattle.pm_stairs.specs.Command.{same_command}
-use Rattle.pm_stairs.specs.Due.{asked_for, due_now, ended_for, giving, is_due_order, is_settled, is_unread_off, looking, said_of, due_of, plan_order}
+use Rattle.pm_stairs.specs.Due.{said_of_asked_job, due_now, ended_for, giving, is_due_order, is_settled, is_unread_off, looking_first, said_of, step_due_of, plan_order}
 use Rattle.pm_stairs.specs.Stairs as goes
 use Rattle.pm_stairs.specs.Stairs.{AsksAhead, Goes, GoesAhead, GoesUnder, SaysStep, ahead_move, begins_now, trying, under_move}
-use Rattle.pm_stairs.specs.Steps.{noted, step_with, act_back, back_word, act_of, step_of}
+use Rattle.pm_stairs.specs.Steps.{noted, step_with, act_back, back_word, act_of_words, step_of_words}
 use Rattle.pm_stairs.specs.declared.said.Said.TheVariants as said
 use Rattle.pm_stairs.specs.declared.said.StepEnd.TheVariants.{Changed}
 use Rattle.pm_stairs.specs.declared.said.StepEnd.TheVariants as why
@@ -44,15 +44,17 @@ use Rattle.pm_stairs.specs.declared.step.WordAct.TheVariants as word
 use Rattle.pm_world.specs.{Confirmed.restarts_converter, Honest.IsSpelled, Job.asked_by, Lemmas.Plans.last-none, Life.now}
 use Rattle.pm_world.specs.{State.asked, declared.event.Event.Event, declared.event.Event.TheVariants.RestartDevice}
 use Rattle.pm_world.specs.Lived.{EventsAreLived, IsLived}
-use Rattle.pm_sequence_laws.specs.Back.{back_of, StairsGoBack, back_step, counted_deed, counted_step, downs_of}
+use Rattle.pm_sequence_laws.specs.Back.{undoing_deed, StairsGoBack, back_step, counted_deed, counted_step, downs_of}
 use Rattle.pm_sequence_laws.specs.Climb as climb
-use Rattle.pm_sequence_laws.specs.Climb.{AreBacks, AreOf, ClimbsAreStairs, IsClimb, IsGuardAt, deed_of, first, rail_step, rail_steps}
+use Rattle.pm_sequence_laws.specs.Climb.{AreBacks, AreOf, ClimbsAreStairs, IsClimb, IsGuardAt, deed_of, first_step_ahead, rail_step}
+use Rattle.pm_sequence_laws.specs.Climb.{rail_steps}
 use Rattle.pm_sequence_laws.specs.Climb.{ClimbsComeBack, IsOnWayBack}
 use Rattle.pm_sequence_laws.specs.Due as means
-use Rattle.pm_sequence_laws.specs.Due.{IsDone, IsDueOrder, IsFirst, LacksNone, Means, MovesAreDue, is_read, step_under, IsOf}
+use Rattle.pm_sequence_laws.specs.Due.{IsStepOver, IsDueOrder, IsFirst, LacksNone, Means, MovesAreDue, is_reading_job, word_step_under}
+use Rattle.pm_sequence_laws.specs.Due.{IsOf}
 use Rattle.pm_sequence_laws.specs.Followed.{IsKnownFrom, IsNextOrder, MayNext, StairsAreFollowed}
-use Rattle.pm_sequence_laws.specs.Stairs.{AreOver, AreSound, Deed, IsOver, IsStairs, MayRest, Nothing, RailStep, Sets, Turns, stair_of, start_of}
-use Rattle.pm_sequence_laws.specs.Stairs.{Rails, StairsHoldInLives, counted, counts_at}
+use Rattle.pm_sequence_laws.specs.Stairs.{AreOver, AreSound, Deed, IsOver, IsStairs, MayRest, Nothing, RailStep, Sets, Turns, stair_of, stair_start_of}
+use Rattle.pm_sequence_laws.specs.Stairs.{Rails, StairsHoldInLives, counting_word, counts_at}
 
 -- What the stairs say, case by case.
 
@@ -62,7 +64,7 @@ use Rattle.pm_sequence_laws.specs.Stairs.{Rails, StairsHoldInLives, counted, cou
 data SaysSo (begun : Bool) (output : ℕ) (due : Due) : Said → Type 0 where
   an-order : (cell : Cell) (word : ℕ) (order : PlanOrder) → due.order ≡ Some order → Order cell word ≡ Order (Out output order.register) order.word →
       (begun ≡ false → due.lacks ≡ None) → SaysSo begun output due (said.Orders cell word)
-  a-read : (job : Asked) → is_read job ≡ true → SaysSo begun output due (said.Reads job)
+  a-read : (job : Asked) → is_reading_job job ≡ true → SaysSo begun output due (said.Reads job)
   a-look : (cell : Cell) → SaysSo begun output due (said.Looks cell)
   an-over : due.over ≡ true → SaysSo begun output due said.Over
   a-stop : (why : StepEnd) → SaysSo begun output due (said.Stops why)
@@ -80,7 +82,7 @@ module _ (apart : CellsAreToldApart) (begun : Bool) (output : ℕ) (course : Cou
   order-said : (cell : Cell) (word : ℕ) (order : PlanOrder) → due.order ≡ Some order →
       Order cell word ≡ Order (Out output order.register) order.word → (b : Bool) → begun ≡ b → (unread : Bool) → (lacks : Option Cell) →
       due.lacks ≡ lacks →
-      SaysSo begun output due (cond b (said.Orders cell word) (cond unread (said.Looks cell) (looking lacks (said.Orders cell word))))
+      SaysSo begun output due (cond b (said.Orders cell word) (cond unread (said.Looks cell) (looking_first lacks (said.Orders cell word))))
   order-said cell word order is same true isb unread lacks isl = an-order cell word order is same (λ e. let bad = sym isb ∙ e in cc)
   order-said cell word order is same false isb true lacks isl = a-look cell
   order-said cell word order is same false isb false None isl = an-order cell word order is same (λ e. isl)
@@ -100,14 +102,14 @@ module _ (apart : CellsAreToldApart) (begun : Bool) (output : ℕ) (course : Cou
       (order-said cell word order is (the-order cell word order e) begun refl (is_unread_off course cell word) due.lacks refl)
       (is_settled course due word) refl
 
-  asked-so : (job : Asked) → SaysSo begun output due (asked_for begun output course due job)
+  asked-so : (job : Asked) → SaysSo begun output due (said_of_asked_job begun output course due job)
   asked-so (Order cell word) = ordered-so cell word due.order refl (is_due_order output due.order cell word) refl
   asked-so (Check cell) = a-read (Check cell) refl
   asked-so (Learn at) = a-read (Learn at) refl
   asked-so (OrderMicro cell x) = a-stop Changed
   asked-so (Send command) = a-stop Changed
 
-  reached-so : (b : Bool) → due.over ≡ b → (lacks : Option Cell) → SaysSo begun output due (cond b said.Over (looking lacks (said.Stops Changed)))
+  reached-so : (b : Bool) → due.over ≡ b → (lacks : Option Cell) → SaysSo begun output due (cond b said.Over (looking_first lacks (said.Stops Changed)))
   reached-so true is lacks = an-over is
   reached-so false is None = a-stop Changed
   reached-so false is (Some cell) = a-look cell
@@ -150,8 +152,8 @@ module _ (apart : CellsAreToldApart) (g : Guarded) where
   -- ---- The step under way ----
 
   data UnderSo (old : Option WordStep) : Option Move → Type 0 where
-    is-free : IsDone g.registers g.host old → UnderSo old None
-    is-read : (job : Asked) → is_read job ≡ true → UnderSo old (Some (move.Job job))
+    is-free : IsStepOver g.registers g.host old → UnderSo old None
+    is-read : (job : Asked) → is_reading_job job ≡ true → UnderSo old (Some (move.Job job))
     is-order : (job : Asked) (step : WordStep) → old ≡ Some step → IsDueOrder g.registers g.host step job → UnderSo old (Some (move.Job job))
     is-stop : (why : StepEnd) → UnderSo old (Some (move.Stops why))
 
@@ -162,33 +164,34 @@ module _ (apart : CellsAreToldApart) (g : Guarded) where
   under-said old step is (said.Reads job) (a-read job' read) = is-read job read
   under-said old step is (said.Looks cell) so = is-read (Check cell) refl
   under-said old step is said.Over (an-over done) = is-free
-      (subst (λ (o : Option WordStep). IsDone g.registers g.host o) (sym is) (limits_at g step.output, done))
+      (subst (λ (o : Option WordStep). IsStepOver g.registers g.host o) (sym is) (limits_at g step.output, done))
   under-said old step is (said.Stops why) so = is-stop why
 
   under-so : (old new : Stairs) (next : Option Move) → GoesUnder g old next new →
-      UnderSo (step_under old) next × (step_under new ≡ step_under old)
+      UnderSo (word_step_under old) next × (word_step_under new ≡ word_step_under old)
   under-so old new next (goes.free none) = (
-    is-free (subst (λ (o : Option WordStep). IsDone g.registers g.host o)
+    is-free (subst (λ (o : Option WordStep). IsStepOver g.registers g.host o)
         (sym (ap (λ (u : Option Under). option_map (λ (v : Under). v.step) u) none)) tt),
     refl,
   )
   under-so old new next (goes.absent under is gone) = (is-stop _, refl)
   under-so old new next (goes.asks under x course is says) =
-      let step_is : step_under old ≡ Some under.step = ap (λ (u : Option Under). option_map (λ (v : Under). v.step) u) is in
-      (under-said (step_under old) under.step step_is x (step-so true under.step under.course course x says), sym step_is)
+      let step_is : word_step_under old ≡ Some under.step = ap (λ (u : Option Under). option_map (λ (v : Under). v.step) u) is in
+      (under-said (word_step_under old) under.step step_is x (step-so true under.step under.course course x says), sym step_is)
 
   -- ---- The first step ahead ----
 
   data AheadSo (step : WordStep) (old new : Option WordStep) : Move → Type 0 where
     that-begins : (job : Asked) → IsDueOrder g.registers g.host step job → LacksNone g.registers g.host step → new ≡ Some step →
         AheadSo step old new (move.Begins job (noted g.host step))
-    that-passes : IsDone g.registers g.host (Some step) → new ≡ Some step → AheadSo step old new (move.Passes (noted g.host step))
-    that-reads : (job : Asked) → is_read job ≡ true → new ≡ old → AheadSo step old new (move.Job job)
+    that-passes : IsStepOver g.registers g.host (Some step) → new ≡ Some step → AheadSo step old new (move.Passes (noted g.host step))
+    that-reads : (job : Asked) → is_reading_job job ≡ true → new ≡ old → AheadSo step old new (move.Job job)
     that-stops : (why : StepEnd) → new ≡ old → AheadSo step old new (move.Stops why)
 
   ahead-said : (step : WordStep) (old : Stairs) (course : FrameCourse) (x : Said) →
       SaysSo false step.output (due_now g.registers (limits_at g step.output) g.host step) x →
-      AheadSo step (step_under old) (step_under (goes.ahead_after old step course (begins_now x))) (ahead_move (noted g.host step) x)
+      AheadSo step (word_step_under old) (word_step_under (goes.stairs_ahead_after old step course (begins_now x)))
+      (ahead_move (noted g.host step) x)
   ahead-said step old course (said.Orders cell word) (an-order cell' word' order due same lacks) =
       that-begins (Order cell word) (due-order step cell word order due same) (limits_at g step.output, lacks refl) refl
   ahead-said step old course (said.Reads job) (a-read job' read) = that-reads job read refl
@@ -197,13 +200,13 @@ module _ (apart : CellsAreToldApart) (g : Guarded) where
   ahead-said step old course (said.Stops why) so = that-stops why refl
 
   asks-so : (step : WordStep) (course : FrameCourse) (old new : Stairs) (next : Move) → AsksAhead g step course old next new →
-      AheadSo step (step_under old) (step_under new) next
+      AheadSo step (word_step_under old) (word_step_under new) next
   asks-so step course old new next (goes.absent gone) = that-stops _ refl
   asks-so step course old new next (goes.asks x after says) =
       ahead-said step old after x (step-so false step course after x says)
 
   ahead-means : (ahead : Option Step) (old between new : Option WordStep) (step : WordStep) (next : Move) →
-      IsDone g.registers g.host old → between ≡ old → IsFirst ahead step → AheadSo step between new next →
+      IsStepOver g.registers g.host old → between ≡ old → IsFirst ahead step → AheadSo step between new next →
       Means g.registers g.host ahead old new next
   ahead-means ahead old between new step next done same of (that-begins job due lacks is) = means.begins job step done of due lacks is
   ahead-means ahead old between new step next done same of (that-passes over is) = means.passes step done of over is
@@ -216,29 +219,30 @@ module _ (apart : CellsAreToldApart) (g : Guarded) where
   under-means ahead old new next (is-order job step was due) is = means.orders job step was due is
   under-means ahead old new next (is-stop why) is = means.stops why is
 
-  done-of : (old : Option WordStep) → UnderSo old None → IsDone g.registers g.host old
+  done-of : (old : Option WordStep) → UnderSo old None → IsStepOver g.registers g.host old
   done-of old (is-free done) = done
 
   first-so : (tries : ℕ) (ahead : Option Step) (step : Step) (old : Option WordStep) (between new : Stairs) (next : Move) →
-      GoesAhead g tries step between next new → ahead ≡ Some step → IsDone g.registers g.host old → step_under between ≡ old →
-      Means g.registers g.host ahead old (step_under new) next
+      GoesAhead g tries step between next new → ahead ≡ Some step → IsStepOver g.registers g.host old → word_step_under between ≡ old →
+      Means g.registers g.host ahead old (word_step_under new) next
   first-so tries ahead step old between new next (goes.unformed refusal none) is done same = means.stops _ same
   first-so tries ahead step old between new next (goes.asks words next' new' has says) is done same =
-      ahead-means ahead old (step_under between) (step_under new) (step_with step words) next done same (step, (is, (words, refl)))
+      ahead-means ahead old (word_step_under between) (word_step_under new) (step_with step words) next done same
+      (step, (is, (words, refl)))
       (asks-so (step_with step words) (goes.coming_course between step tries) between new next says)
 
   means-so : (tries : ℕ) (ahead : Option Step) (old new : Stairs) (next : Move) → Goes g tries ahead old next new →
-      Means g.registers g.host ahead (step_under old) (step_under new) next
+      Means g.registers g.host ahead (word_step_under old) (word_step_under new) next
   means-so tries ahead old new next (goes.restarted was) = means.stops _ refl
   means-so tries ahead old new next (goes.under next' new' on says) =
       let so = under-so old new (Some next) says in
-      under-means ahead (step_under old) (step_under new) next so.0 so.1
+      under-means ahead (word_step_under old) (word_step_under new) next so.0 so.1
   means-so tries ahead old new next (goes.first step next' between new' on over is says) =
       let so = under-so old between None over in
-      first-so tries ahead step (step_under old) between new next says is (done-of (step_under old) so.0) so.1
+      first-so tries ahead step (word_step_under old) between new next says is (done-of (word_step_under old) so.0) so.1
   means-so tries ahead old new next (goes.all new' on over none) =
       let so = under-so old new None over in
-      means.reached (done-of (step_under old) so.0) none so.1
+      means.reached (done-of (word_step_under old) so.0) none so.1
 
 pub moves-are-due : CellsAreToldApart → MovesAreDue
 moves-are-due apart = λ g tries ahead old new next says. means-so apart g tries ahead old new next says
@@ -285,7 +289,7 @@ module _ (config : Config) (passes : ℕ) (part : PartRegisters) (events : List 
   s = (now config passes events).host
 
   next-order : (limits : OutputLimits) (output : ℕ) (a : WordAct) (order : PlanOrder) →
-      (due_of part limits s output a).order ≡ Some order → IsNextOrder config passes part output (deed_of a) events order.register order.word
+      (step_due_of part limits s output a).order ≡ Some order → IsNextOrder config passes part output (deed_of a) events order.register order.word
   next-order limits output (word.Sets words) order is = (limits, plan-some (plan_of part s limits output (wants_of words)) order is)
   next-order limits output (word.Turns byte) order is = (byte-order (is_busy s) byte order is).1
   next-order limits output word.Nothing order is = cc
@@ -295,14 +299,14 @@ module _ (config : Config) (passes : ℕ) (part : PartRegisters) (events : List 
   may-order step job due = subst (λ (j : Asked). MayNext config passes part step.output (deed_of step.act) events (accepted_job s j))
       (sym due.is_job) (refl, next-order due.limits step.output step.act due.order due.due)
 
-  may-read : (job : Asked) → is_read job ≡ true → MayRest (accepted_job s job)
+  may-read : (job : Asked) → is_reading_job job ≡ true → MayRest (accepted_job s job)
   may-read (Check cell) is = tt
   may-read (Learn output) is = tt
   may-read (Order cell word) is = cc
   may-read (OrderMicro cell x) is = cc
   may-read (Send command) is = cc
 
-  over-act : (limits : OutputLimits) (output : ℕ) (a : WordAct) → (due_of part limits s output a).over ≡ true →
+  over-act : (limits : OutputLimits) (output : ℕ) (a : WordAct) → (step_due_of part limits s output a).over ≡ true →
       IsOver config passes part output (deed_of a) events
   over-act limits output (word.Sets words) is = (limits, last-none (plan_of part s limits output (wants_of words)) is)
   over-act limits output (word.Turns byte) is =
@@ -317,7 +321,8 @@ module _ (config : Config) (passes : ℕ) (part : PartRegisters) (events : List 
   IsAnswered limits output word.Nothing = is_busy s ≡ false
 
   answered-order : (limits lacking : OutputLimits) (output : ℕ) (a : WordAct) (order : PlanOrder) →
-      (due_of part limits s output a).order ≡ Some order → (due_of part lacking s output a).lacks ≡ None → IsAnswered limits output a
+      (step_due_of part limits s output a).order ≡ Some order → (step_due_of part lacking s output a).lacks ≡ None →
+      IsAnswered limits output a
   unfolding IsAnswered
   answered-order limits lacking output (word.Sets words) order is lacks =
       (Some order, plan-some (plan_of part s limits output (wants_of words)) order is)
@@ -327,7 +332,7 @@ module _ (config : Config) (passes : ℕ) (part : PartRegisters) (events : List 
   )
   answered-order limits lacking output word.Nothing order is lacks = cc
 
-  answered-over : (limits : OutputLimits) (output : ℕ) (a : WordAct) → (due_of part limits s output a).over ≡ true →
+  answered-over : (limits : OutputLimits) (output : ℕ) (a : WordAct) → (step_due_of part limits s output a).over ≡ true →
       IsAnswered limits output a
   unfolding IsAnswered
   answered-over limits output (word.Sets words) is = (None, last-none (plan_of part s limits output (wants_of words)) is)
@@ -353,15 +358,15 @@ module _ (config : Config) (passes : ℕ) (part : PartRegisters) (events : List 
 
   noted-back : (before : List Event) (done : List RailStep) (limits : OutputLimits) (output : ℕ) (a : WordAct) →
       IsAnswered limits output a → IsKnownFrom config passes part before done output (deed_of a) events →
-      counted_deed (deed_of (act_back s output a)) ≡ back_of (stair_of (start_of config passes before) done output) (deed_of a)
+      counted_deed (deed_of (act_back s output a)) ≡ undoing_deed (stair_of (stair_start_of config passes before) done output) (deed_of a)
   unfolding IsAnswered
   noted-back before done limits output (word.Sets words) is known = ap (λ (w : Wants). Sets w) (fun_ext each) where
     old : Held
-    old = stair_of (start_of config passes before) done output
+    old = stair_of (stair_start_of config passes before) done output
 
     one : (register : Reg) → back_word s output register (wants_of words register)
-        ≡ option_map (λ (word : ℕ). stair_of (start_of config passes before) done output register) (wants_of words register)
-    one register = word-back output register (stair_of (start_of config passes before) done output register) (wants_of words register)
+        ≡ option_map (λ (word : ℕ). stair_of (stair_start_of config passes before) done output register) (wants_of words register)
+    one register = word-back output register (stair_of (stair_start_of config passes before) done output register) (wants_of words register)
         (λ word wanted. known limits is.0 register word is.1 wanted)
 
     each : (register : Reg) → wants_of (record {
@@ -370,7 +375,7 @@ module _ (config : Config) (passes : ℕ) (part : PartRegisters) (events : List 
       margin_high = back_word s output MarginHigh words.margin_high;
       margin_low = back_word s output MarginLow words.margin_low;
       min = back_word s output VoutMin words.min;
-    }) register ≡ option_map (λ (word : ℕ). stair_of (start_of config passes before) done output register) (wants_of words register)
+    }) register ≡ option_map (λ (word : ℕ). stair_of (stair_start_of config passes before) done output register) (wants_of words register)
     each Operation = refl
     each VoutCommand = one VoutCommand
     each VoutMax = one VoutMax
@@ -418,22 +423,22 @@ module _ (lives : EventsAreLived) (follow : StairsAreFollowed) (due : MovesAreDu
   record Holds (begun backs : List WordStep) (ahead : List Step) (stairs : Stairs) (events : List Event) : Type 0 where
     is_stairs : IsStairs config passes part before (rail_steps begun) events
     noted_are : IsSpelled config → IsLived config passes events → AreSound config passes part before (rail_steps begun) →
-        AreBacks (start_of config passes before) (rail_steps begun) (rail_steps backs)
-    under_is : step_under stairs ≡ newest begun
+        AreBacks (stair_start_of config passes before) (rail_steps begun) (rail_steps backs)
+    under_is : word_step_under stairs ≡ newest begun
     in_order : AreOf begun ahead steps
 
   means-at : (g : Guarded) (tries : ℕ) (ahead : Option Step) (old new : Stairs) (next : Move) (events : List Event) →
       IsGuardAt config passes part events g → Goes g tries ahead old next new →
-      Means part (host_at events) ahead (step_under old) (step_under new) next
+      Means part (host_at events) ahead (word_step_under old) (word_step_under new) next
   means-at g tries ahead old new next events at goes =
-      subst (λ (p : PartRegisters). Means p (host_at events) ahead (step_under old) (step_under new) next) at.registers
-      (subst (λ (x : Summary). Means g.registers x ahead (step_under old) (step_under new) next) at.host
+      subst (λ (p : PartRegisters). Means p (host_at events) ahead (word_step_under old) (word_step_under new) next) at.registers
+      (subst (λ (x : Summary). Means g.registers x ahead (word_step_under old) (word_step_under new) next) at.host
       (due g tries ahead old new next goes))
 
   -- one more event leaves what was noted
   still : (begun backs : List WordStep) (ahead : List Step) (stairs new : Stairs) (events : List Event) (event : Event) →
       Holds begun backs ahead stairs events → IsStairs config passes part before (rail_steps begun) (event ∷ events) →
-      step_under new ≡ step_under stairs → Holds begun backs ahead new (event ∷ events)
+      word_step_under new ≡ word_step_under stairs → Holds begun backs ahead new (event ∷ events)
   still begun backs ahead stairs new events event was on same = record {
     is_stairs = on;
     noted_are = λ spelled lived sound. was.noted_are spelled (lives.earlier config passes (event ∷ []) events lived) sound;
@@ -470,7 +475,7 @@ module _ (lives : EventsAreLived) (follow : StairsAreFollowed) (due : MovesAreDu
 
   job-more : (begun backs : List WordStep) (ahead : List Step) (stairs new : Stairs) (events : List Event) (event : Event) (job : Asked) →
       Holds begun backs ahead stairs events → asked_by event ≡ Some job →
-      Means part (host_at events) (first ahead) (step_under stairs) (step_under new) (move.Job job) →
+      Means part (host_at events) (first_step_ahead ahead) (word_step_under stairs) (word_step_under new) (move.Job job) →
       Holds begun backs ahead new (event ∷ events)
   job-more begun backs ahead stairs new events event job was by (means.reads job' read same) =
       still begun backs ahead stairs new events event was
@@ -482,7 +487,7 @@ module _ (lives : EventsAreLived) (follow : StairsAreFollowed) (due : MovesAreDu
       (under-more events event job begun step (sym was.under_is ∙ under) was.is_stairs by order) same
 
   -- the steps that have begun are over, where the one under way is done
-  done-over : (begun : List WordStep) (events : List Event) → IsDone part (host_at events) (newest begun) → is_busy (host_at events) ≡ false →
+  done-over : (begun : List WordStep) (events : List Event) → IsStepOver part (host_at events) (newest begun) → is_busy (host_at events) ≡ false →
       AreOver config passes part (rail_steps begun) events
   unfolding newest
   done-over [] events is idle = idle
@@ -490,12 +495,12 @@ module _ (lives : EventsAreLived) (follow : StairsAreFollowed) (due : MovesAreDu
 
   begin-more : (limits : OutputLimits) (begun backs : List WordStep) (ahead : List Step) (wishes : Step) (stairs new : Stairs)
       (events : List Event) (step : WordStep) →
-      Holds begun backs (wishes ∷ ahead) stairs events → IsDone part (host_at events) (step_under stairs) →
-      IsAnswered config passes part events limits step.output step.act → IsFirst (Some wishes) step → step_under new ≡ Some step →
+      Holds begun backs (wishes ∷ ahead) stairs events → IsStepOver part (host_at events) (word_step_under stairs) →
+      IsAnswered config passes part events limits step.output step.act → IsFirst (Some wishes) step → word_step_under new ≡ Some step →
       Holds (step ∷ begun) (noted (host_at events) step ∷ backs) ahead new events
   unfolding newest step-doing
   begin-more limits begun backs ahead wishes stairs new events step was done answered is_first under =
-      let over = done-over begun events (subst (λ (o : Option WordStep). IsDone part (host_at events) o) was.under_is done)
+      let over = done-over begun events (subst (λ (o : Option WordStep). IsStepOver part (host_at events) o) was.under_is done)
       (answered-idle config passes part events limits step.output step.act answered) in
       record {
         is_stairs = follow.begin config passes part before events (rail_step step) (rail_steps begun) was.is_stairs over;
@@ -520,11 +525,12 @@ module _ (lives : EventsAreLived) (follow : StairsAreFollowed) (due : MovesAreDu
 
   begins-so : (begun backs : List WordStep) (ahead : List Step) (wishes : Step) (stairs new : Stairs) (events : List Event) (step back : WordStep)
       (job : Asked) → Holds begun backs (wishes ∷ ahead) stairs events →
-      Means part (host_at events) (Some wishes) (step_under stairs) (step_under new) (move.Begins job back) → step_under new ≡ Some step →
+      Means part (host_at events) (Some wishes) (word_step_under stairs) (word_step_under new) (move.Begins job back) → word_step_under new
+      ≡ Some step →
       Holds (step ∷ begun) (back ∷ backs) ahead new events × IsDueOrder part (host_at events) step job
   begins-so begun backs ahead wishes stairs new events step back job was (means.begins job' at done of order lacks is) under =
       subst (λ (x : WordStep). Holds (x ∷ begun) (noted (host_at events) at ∷ backs) ahead new events
-      × IsDueOrder part (host_at events) x job) (one-step at step (step_under new) is under) (
+      × IsDueOrder part (host_at events) x job) (one-step at step (word_step_under new) is under) (
         begin-more order.limits begun backs ahead wishes stairs new events at was done
             (answered-order config passes part events order.limits lacks.0 at.output at.act order.order order.due lacks.1) of is,
         order,
@@ -532,11 +538,12 @@ module _ (lives : EventsAreLived) (follow : StairsAreFollowed) (due : MovesAreDu
 
   passes-so : (begun backs : List WordStep) (ahead : List Step) (wishes : Step) (stairs new : Stairs) (events : List Event) (step back : WordStep) →
       Holds begun backs (wishes ∷ ahead) stairs events →
-      Means part (host_at events) (Some wishes) (step_under stairs) (step_under new) (move.Passes back) → step_under new ≡ Some step →
+      Means part (host_at events) (Some wishes) (word_step_under stairs) (word_step_under new) (move.Passes back) → word_step_under new
+      ≡ Some step →
       Holds (step ∷ begun) (back ∷ backs) ahead new events
   passes-so begun backs ahead wishes stairs new events step back was (means.passes at done of over is) under =
       subst (λ (x : WordStep). Holds (x ∷ begun) (noted (host_at events) at ∷ backs) ahead new events)
-      (one-step at step (step_under new) is under)
+      (one-step at step (word_step_under new) is under)
       (begin-more over.0 begun backs ahead wishes stairs new events at was done
       (answered-over config passes part events over.0 at.output at.act over.1) of is)
 
@@ -557,7 +564,7 @@ module _ (lives : EventsAreLived) (follow : StairsAreFollowed) (due : MovesAreDu
       record { is_stairs = was.is_stairs; noted_are = was.noted_are; under_is = same ∙ was.under_is; in_order = was.in_order }
   holds (climb.asks g tries job begun backs ahead stairs new events event c at goes by) =
       job-more begun backs ahead stairs new events event job (holds c) by
-      (means-at g tries (first ahead) stairs new (move.Job job) events at goes)
+      (means-at g tries (first_step_ahead ahead) stairs new (move.Job job) events at goes)
   holds (climb.begins g tries job step back wishes begun backs ahead stairs new events event c at goes under by) =
       let so = begins-so begun backs ahead wishes stairs new events step back job (holds c)
       (means-at g tries (Some wishes) stairs new (move.Begins job back) events at goes) under in
@@ -570,18 +577,18 @@ module _ (lives : EventsAreLived) (follow : StairsAreFollowed) (due : MovesAreDu
       let was = holds c in
       record { is_stairs = was.is_stairs; noted_are = was.noted_are; under_is = same ∙ was.under_is; in_order = was.in_order }
 
-  no-first : (ahead : List Step) → first ahead ≡ None → ahead ≡ []
+  no-first : (ahead : List Step) → first_step_ahead ahead ≡ None → ahead ≡ []
   no-first [] e = refl
   no-first (step ∷ ahead) e = cc
 
   climb_reached-so : (step : WordStep) (begun backs : List WordStep) (ahead : List Step) (stairs : Stairs) (new : Option WordStep)
       (events : List Event) →
       Holds (step ∷ begun) backs ahead stairs events →
-      Means part (host_at events) (first ahead) (step_under stairs) new move.Reached →
+      Means part (host_at events) (first_step_ahead ahead) (word_step_under stairs) new move.Reached →
       (ahead ≡ []) × AreOver config passes part (rail_steps (step ∷ begun)) events
   unfolding newest
   climb_reached-so step begun backs ahead stairs new events was (means.reached done none same) =
-      let is = subst (λ (o : Option WordStep). IsDone part (host_at events) o) was.under_is done in
+      let is = subst (λ (o : Option WordStep). IsStepOver part (host_at events) o) was.under_is done in
       (no-first ahead none, over-act config passes part events is.0 step.output step.act is.1)
 
 pub climbs-are-stairs : EventsAreLived → StairsAreFollowed → MovesAreDue → ClimbsAreStairs
@@ -593,9 +600,9 @@ climbs-are-stairs lives follow due = record {
   backs = λ config passes part steps before begun backs ahead stairs events spelled lived c sound.
       (holds lives follow due config passes part steps before c).noted_are spelled lived sound;
   reached = λ config passes part steps before step begun backs ahead stairs new events g tries c at goes.
-      climb_reached-so lives follow due config passes part steps before step begun backs ahead stairs (step_under new) events
+      climb_reached-so lives follow due config passes part steps before step begun backs ahead stairs (word_step_under new) events
       (holds lives follow due config passes part steps before c)
-      (means-at lives follow due config passes part steps before g tries (first ahead) stairs new move.Reached events at goes);
+      (means-at lives follow due config passes part steps before g tries (first_step_ahead ahead) stairs new move.Reached events at goes);
 }
 
 -- The way back of a caller of the stairs.
@@ -723,18 +730,18 @@ all-onto (step ∷ begun) ahead steps are has =
     (words-of are.0 step are.1.0 (first-of (has_words are.0.act) (all_words ahead) (words-ahead begun (are.0 ∷ ahead) steps are.1.1 has)))
     ∙ all-onto begun (are.0 ∷ ahead) steps are.1.1 has
 
-has-words : (a : WordAct) → has_words (act_of a) ≡ true
+has-words : (a : WordAct) → has_words (act_of_words a) ≡ true
 unfolding has_words
 has-words (word.Sets words) = refl
 has-words (word.Turns byte) = refl
 has-words word.Nothing = refl
 
-back-words : (backs : List WordStep) → all_words (map step_of backs) ≡ true
+back-words : (backs : List WordStep) → all_words (map step_of_words backs) ≡ true
 unfolding all_words
 back-words [] = refl
-back-words (back ∷ backs) = ap (λ (b : Bool). b && all_words (map step_of backs)) (has-words back.act) ∙ back-words backs
+back-words (back ∷ backs) = ap (λ (b : Bool). b && all_words (map step_of_words backs)) (has-words back.act) ∙ back-words backs
 
-back-deed : (a : WordAct) → act-deed (act_of a) ≡ deed_of a
+back-deed : (a : WordAct) → act-deed (act_of_words a) ≡ deed_of a
 unfolding act-deed
 back-deed (word.Sets words) = refl
 back-deed (word.Turns byte) = refl
@@ -744,16 +751,16 @@ back-deed word.Nothing = refl
 abbrev doing : ℕ → Deed → RailStep
 doing output deed = record { output = output; deed = deed }
 
-back-rails : (backs : List WordStep) → rails-of (map step_of backs) ≡ rail_steps backs
+back-rails : (backs : List WordStep) → rails-of (map step_of_words backs) ≡ rail_steps backs
 unfolding rails-of rail-of
 back-rails [] = refl
 back-rails (back ∷ backs) =
-    ap (λ (d : Deed). doing back.output d ∷ rails-of (map step_of backs)) (back-deed back.act)
+    ap (λ (d : Deed). doing back.output d ∷ rails-of (map step_of_words backs)) (back-deed back.act)
     ∙ ap (λ (l : List RailStep). rail_step back ∷ l) (back-rails backs)
 
 -- ---- The way ----
 
-no-ahead : (ahead : List Step) → first ahead ≡ None → ahead ≡ []
+no-ahead : (ahead : List Step) → first_step_ahead ahead ≡ None → ahead ≡ []
 no-ahead [] e = refl
 no-ahead (step ∷ ahead) e = cc
 
@@ -766,28 +773,28 @@ module _ (climbs : ClimbsAreStairs) (config : Config) (passes : ℕ) (part : Par
     (stop_lived : IsLived config passes stop) (up : IsClimb config passes part steps before begun backs ahead stairs stop)
     (sound : AreSound config passes part before (rail_steps begun)) where
   abbrev start : Rails
-  start = start_of config passes before
+  start = stair_start_of config passes before
 
   the-path : (downs ups : List WordStep) (left : List Step) (back : Stairs) (events : List Event) →
-      IsClimb config passes part (map step_of backs) stop downs ups left back events →
+      IsClimb config passes part (map step_of_words backs) stop downs ups left back events →
       IsPath start (rail_steps begun) (onto (rail_steps downs) []) (rails-of left)
   the-path downs ups left back events down = path start (rail_steps begun) (onto (rail_steps downs) []) (rails-of left)
       (subst (λ (l : List RailStep). AreBacks start (rail_steps begun) l)
       (sym (back-rails backs)
-      ∙ sym (all-onto downs left (map step_of backs)
-      (climbs.order config passes part (map step_of backs) stop downs ups left back events down) (back-words backs))
+      ∙ sym (all-onto downs left (map step_of_words backs)
+      (climbs.order config passes part (map step_of_words backs) stop downs ups left back events down) (back-words backs))
       ∙ onto-append (rail_steps downs) (rails-of left))
       (climbs.backs config passes part steps before begun backs ahead stairs stop spelled stop_lived up sound))
 
   on-way : (downs ups : List WordStep) (left : List Step) (back : Stairs) (events : List Event) →
-      IsClimb config passes part (map step_of backs) stop downs ups left back events → IsOnWayBack start (rail_steps begun) (rail_steps downs)
+      IsClimb config passes part (map step_of_words backs) stop downs ups left back events → IsOnWayBack start (rail_steps begun) (rail_steps downs)
   on-way downs ups left back events down =
       let p = the-path downs ups left back events down in
       record { newest = p.newest; left = p.left; is = p.is; down = down-is (rail_steps downs) p }
 
   module _ (goes : StairsGoBack) (hold : StairsHoldInLives) (due : MovesAreDue) (ups : List WordStep) (back new : Stairs) (events : List Event)
       (lived : IsLived config passes events) (g : Guarded) (tries : ℕ) (at : IsGuardAt config passes part events g) where
-    all-way : (downs : List WordStep) → IsClimb config passes part (map step_of backs) stop downs ups [] back events →
+    all-way : (downs : List WordStep) → IsClimb config passes part (map step_of_words backs) stop downs ups [] back events →
         map counted_step (rail_steps downs) ≡ downs_of start (rail_steps begun) [] []
     unfolding rails-of
     all-way downs down =
@@ -799,27 +806,28 @@ module _ (climbs : ClimbsAreStairs) (config : Config) (passes : ℕ) (part : Par
         (sym (p.is ∙ ap (λ (l : List RailStep). p.newest ++ l) left ∙ append-nil p.newest))
 
     -- all downs have begun, and the last is over, where one has begun
-    ends : (downs : List WordStep) (left : List Step) → IsClimb config passes part (map step_of backs) stop downs ups left back events →
-        Goes g tries (first left) back Reached new → (left ≡ []) →
+    ends : (downs : List WordStep) (left : List Step) →
+        IsClimb config passes part (map step_of_words backs) stop downs ups left back events →
+        Goes g tries (first_step_ahead left) back Reached new → (left ≡ []) →
         (rail_steps downs ≡ []) ⊎ AreOver config passes part (rail_steps downs) events
     ends [] left down reached none = inl refl
     ends (step ∷ downs) left down reached none =
-        inr (climbs.reached config passes part (map step_of backs) stop step downs ups left back new events g tries down at reached).1
+        inr (climbs.reached config passes part (map step_of_words backs) stop step downs ups left back new events g tries down at reached).1
 
-    come-back : (downs : List WordStep) → IsClimb config passes part (map step_of backs) stop downs ups [] back events →
+    come-back : (downs : List WordStep) → IsClimb config passes part (map step_of_words backs) stop downs ups [] back events →
         (rail_steps downs ≡ []) ⊎ AreOver config passes part (rail_steps downs) events →
         (output : ℕ) (register : Reg) → output < config.count →
         counts_at config passes events output register ≡ counts_at config passes before output register
     come-back downs down over = go (rail_steps begun) sound
         (climbs.stairs config passes part steps before begun backs ahead stairs stop up) (rail_steps downs)
-        (climbs.stairs config passes part (map step_of backs) stop downs ups [] back events down) over (all-way downs down)
+        (climbs.stairs config passes part (map step_of_words backs) stop downs ups [] back events down) over (all-way downs down)
       where
         go : (done : List RailStep) → AreSound config passes part before done → IsStairs config passes part before done stop →
             (way : List RailStep) → IsStairs config passes part stop way events →
             (way ≡ []) ⊎ AreOver config passes part way events → map counted_step way ≡ downs_of start done [] [] →
             (output : ℕ) (register : Reg) → output < config.count →
             counts_at config passes events output register ≡ counts_at config passes before output register
-        go [] sound' was way is ends' same output register here = ap (counted register)
+        go [] sound' was way is ends' same output register here = ap (counting_word register)
             ((hold config passes events spelled lived).between part [] stop tt
             (subst (λ (l : List RailStep). IsStairs config passes part stop l events) (map-none way same) is) output register here
             ∙ (hold config passes stop spelled stop_lived).between part [] before tt was output register here)
@@ -830,13 +838,13 @@ module _ (climbs : ClimbsAreStairs) (config : Config) (passes : ℕ) (part : Par
             goes.back config passes part before stop events step newest way spelled lived sound' was same is over' output register here
 
     reached-back : (downs : List WordStep) (left : List Step) →
-        IsClimb config passes part (map step_of backs) stop downs ups left back events →
-        Goes g tries (first left) back Reached new → (output : ℕ) (register : Reg) → output < config.count →
+        IsClimb config passes part (map step_of_words backs) stop downs ups left back events →
+        Goes g tries (first_step_ahead left) back Reached new → (output : ℕ) (register : Reg) → output < config.count →
         counts_at config passes events output register ≡ counts_at config passes before output register
     reached-back downs left down reached =
-        let none : left ≡ [] = no-ahead left (means-none (due g tries (first left) back new Reached reached)) in
+        let none : left ≡ [] = no-ahead left (means-none (due g tries (first_step_ahead left) back new Reached reached)) in
         come-back downs
-        (subst (λ (l : List Step). IsClimb config passes part (map step_of backs) stop downs ups l back events) none down)
+        (subst (λ (l : List Step). IsClimb config passes part (map step_of_words backs) stop downs ups l back events) none down)
         (ends downs left down reached none)
 
 pub climbs-come-back : ClimbsAreStairs → MovesAreDue → StairsGoBack → StairsHoldInLives → ClimbsComeBack

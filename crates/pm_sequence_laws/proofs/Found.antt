@@ -13,7 +13,8 @@ use Rattle.pm_stairs.specs.{OpenCourse.course_open, declared.said.Said.Said, dec
 use Rattle.pm_stairs.specs.{declared.sequence.Sequence.Sequence as List, declared.sequence.Turn.Turn, declared.stairs.Move.Move}
 use Rattle.pm_stairs.specs.{declared.stairs.Stairs.Stairs, declared.step.Step.Step, declared.step.WordStep.WordStep}
 use Rattle.pm_stairs.specs.Sequence as list
-use Rattle.pm_stairs.specs.Sequence.{Says, Turns, begins_after, begins_turn, is_under, off_at_once, one_more, refused_back, refused_for}
+use Rattle.pm_stairs.specs.Sequence.{Says, Turns, begins_after, begins_turn, is_under, off_at_once, one_step_more, refused_back}
+use Rattle.pm_stairs.specs.Sequence.{refused_for}
 use Rattle.pm_stairs.specs.Sequence.{turned, turned_after}
 use Rattle.pm_stairs.specs.Stairs as goes
 use Rattle.pm_stairs.specs.Stairs.{Goes, GoesUnder, under_move}
@@ -21,10 +22,11 @@ use Rattle.pm_stairs.specs.declared.said.Said.TheVariants as said
 use Rattle.pm_stairs.specs.declared.said.StepEnd.TheVariants as ended
 use Rattle.pm_stairs.specs.declared.sequence.Turn.TheVariants as turn
 use Rattle.pm_stairs.specs.declared.stairs.Move.TheVariants as move
-use Rattle.pm_delivery.specs.{Heard.is_due, declared.delivery.Delivery.Delivery, declared.due.Due.Due, declared.question.Question.Question}
+use Rattle.pm_delivery.specs.{Heard.is_question_due, declared.delivery.Delivery.Delivery, declared.due.Due.Due}
+use Rattle.pm_delivery.specs.{declared.question.Question.Question}
 use Rattle.pm_delivery.specs.{declared.verdict.Verdict.Verdict}
 use Rattle.pm_delivery.specs.Deliveries.{look_before as before_number, has_status, limits_skip}
-use Rattle.pm_delivery.specs.Due.{asked, due_before, asks_limits}
+use Rattle.pm_delivery.specs.Due.{due_question, question_due_before, asks_limits}
 use Rattle.pm_delivery.specs.declared.due.Due.TheVariants as due
 use Rattle.pm_delivery.specs.declared.question.Question.TheVariants.{Before, OvFaultLimit, OvWarnLimit, UvWarnLimit, UvFaultLimit}
 use Rattle.pm_delivery.specs.declared.verdict.Verdict.TheVariants as verdict
@@ -33,12 +35,15 @@ use Rattle.pm_sequence.specs.{declared.look.LookAct.LookAct, declared.sequence.A
 use Rattle.pm_sequence.specs.{declared.sequence.Phase.Phase, declared.sequence.Rules.Rules, declared.sequence.Sequence.Sequence}
 use Rattle.pm_sequence.specs.{declared.step.Step.Step as SequenceStep}
 use Rattle.pm_sequence.specs.Frames.{job_named, refusal_end, refused_act, refused_after, refused_with}
-use Rattle.pm_sequence.specs.Gate.{is_order, is_untold}
-use Rattle.pm_sequence.specs.Look.{look_act, look_after, asks_operation, counted, found_act, found_after, is_lost, probe_due}
+use Rattle.pm_sequence.specs.Gate.{is_job_order, is_untold}
+use Rattle.pm_sequence.specs.Look.{look_act, look_after_due, asks_operation, look_counted, found_act, found_after, is_output_lost}
+use Rattle.pm_sequence.specs.Look.{probe_due}
 use Rattle.pm_sequence.specs.Sequence as does
 use Rattle.pm_sequence.specs.Sequence.{afresh, afresh_by, Acts, Steps, act_of, afresh_with, after_of, ahead_act, ahead_after, asked_of}
-use Rattle.pm_sequence.specs.Sequence.{begun_by, begun_on, begun_with, done_after, due_in, found_in, gate, gated_act, gated_after, is_good}
-use Rattle.pm_sequence.specs.Sequence.{job_after, judged_in, looked_act, look_before, may_leave, needs_look, on_count, ordered_after}
+use Rattle.pm_sequence.specs.Sequence.{begun_by, begun_on, begun_with, done_after, due_in, found_in, gate, gated_act, gated_after}
+use Rattle.pm_sequence.specs.Sequence.{is_verdict_good}
+use Rattle.pm_sequence.specs.Sequence.{job_after, judged_in_phase, looked_act, look_before_step, may_leave, needs_look, on_count}
+use Rattle.pm_sequence.specs.Sequence.{ordered_after}
 use Rattle.pm_sequence.specs.Sequence.{over_act, over_after, read_after, said_act, said_after, shown, spent_end, stopped_act, stopped_after}
 use Rattle.pm_sequence.specs.Sequence.{told_with, verdict_in, with_list, with_look, asked_list, is_at, left_out, looking_at, new_sequence}
 use Rattle.pm_sequence.specs.declared.gate.Gate.TheVariants as gate_is
@@ -68,7 +73,7 @@ may_begin (turn.Stops why) = false
 -- as many have begun as before, or the first one ahead too
 pub data Counts (q : List) (ahead : Option Placed) (new : List) : Turn → Type 0 where
   same : (x : Turn) → new.begun ≡ q.begun → Counts q ahead new x
-  counts_more : (x : Turn) (placed : Placed) → may_begin x ≡ true → ahead ≡ Some placed → new.begun ≡ one_more q.begun
+  counts_more : (x : Turn) (placed : Placed) → may_begin x ≡ true → ahead ≡ Some placed → new.begun ≡ one_step_more q.begun
       → Counts q ahead new x
 
 abbrev is_begin : Move → Bool
@@ -160,7 +165,7 @@ reached = Some end.Reached
 -- the first step ahead has begun, which was shown, or none
 pub data Begun (steps : Places) (old new : Sequence) : Type 0 where
   acted_same : new.list.begun ≡ old.list.begun → Begun steps old new
-  one : (step : SequenceStep) → old.is_shown ≡ true → steps old.list.begun ≡ Some step → new.list.begun ≡ one_more old.list.begun
+  one : (step : SequenceStep) → old.is_shown ≡ true → steps old.list.begun ≡ Some step → new.list.begun ≡ one_step_more old.list.begun
       → Begun steps old new
 
 -- What an act is: nothing new (`quiet`); a step begins, or an order (`begins`, `orders`); the next step is shown once the newest is looked at
@@ -175,7 +180,8 @@ pub data Kind (steps : Places) (old new : Sequence) : CommonList Mark → Type 0
       → Kind steps old new (Orders new.list.begun ∷ [])
   opens : new.list.begun ≡ old.list.begun → (must (under_at steps old.list.begun) ≡ true → old.is_looked ≡ true) → new.left ≡ old.left
       → (new.end ≡ reached → ⊥) → Kind steps old new []
-  finds : (found : Verdict) → new.list.begun ≡ old.list.begun → is_good (under_at steps old.list.begun) found ≡ true → new.left ≡ old.left
+  finds : (found : Verdict) → new.list.begun ≡ old.list.begun → is_verdict_good (under_at steps old.list.begun) found ≡ true → new.left
+      ≡ old.left
       → (new.end ≡ reached → ⊥) → Kind steps old new (Does new.list.begun found ∷ [])
   leaves : (new.left ≡ 0 → ⊥) → (new.end ≡ reached → ⊥) → Kind steps old new (Leaves ∷ [])
   ends : new.list.begun ≡ old.list.begun → (must (under_at steps old.list.begun) ≡ true → old.is_looked ≡ true) → new.left ≡ old.left
@@ -186,7 +192,7 @@ more-by : (n : ℕ) (b : Bool) → nat_lt n 65535 ≡ b → cond b (n + 1) n ≡
 more-by n true h is = omega arith
 more-by n false h is = true≢false (subst (λ (m : ℕ). nat_lt m 65535 ≡ false) is h)
 
-more-some : (n : ℕ) → one_more n ≡ 0 → ⊥
+more-some : (n : ℕ) → one_step_more n ≡ 0 → ⊥
 more-some n is = more-by n (nat_lt n 65535) refl is
 
 no-end : {x : Option End} → x ≡ None → x ≡ reached → ⊥
@@ -206,7 +212,8 @@ module _ (steps : Places) (was : Sequence) where
   stop-kind q why other begun shows looks lefts on = stop-by q why other begun shows looks lefts on (q.leaves && may_leave why)
 
   module _ (on : was.end ≡ None) where
-    look-kind : (list : List) (first : Bool) (step : Option SequenceStep) → Kind steps was (look_before (asked_of was list first) step) []
+    look-kind : (list : List) (first : Bool) (step : Option SequenceStep) →
+        Kind steps was (look_before_step (asked_of was list first) step) []
     look-kind list first None = acted_quiet refl (λ e. e) (λ e. e) refl (λ e. e)
     look-kind list first (Some step) = acted_quiet refl (λ e. e) (λ e. e) refl (λ e. e)
 
@@ -233,7 +240,7 @@ module _ (steps : Places) (was : Sequence) where
         (marks_of (gated_after (asked_of was list false) step is job (job_after was job list)).list.begun
         (gated_act (asked_of was list false) is job (act.Job job)))
     job-kind step job list begun gate_is.Goes =
-        tell-by list false job (job_after was job list) (act.Job job) (job-by job list begun (is_order job)) (is_untold was.asks was.told job)
+        tell-by list false job (job_after was job list) (act.Job job) (job-by job list begun (is_job_order job)) (is_untold was.asks was.told job)
     job-kind step job list begun gate_is.Looks = look-kind list false step
     job-kind step job list begun (gate_is.Beyond fault) =
         stop-kind (asked_of was list false) (end.Beyond fault) (λ e. cc) refl (λ e. e) (λ e. e) refl on
@@ -364,7 +371,7 @@ module _ (steps : Places) (was : Sequence) where
 
     -- a look
     done-by : (q : Sequence) → q.list.begun ≡ was.list.begun → q.is_shown ≡ was.is_shown → q.is_looked ≡ was.is_looked → q.left ≡ was.left
-        → q.end ≡ None → (found : Verdict) → (b : Bool) → is_good (under_at steps was.list.begun) found ≡ b
+        → q.end ≡ None → (found : Verdict) → (b : Bool) → is_verdict_good (under_at steps was.list.begun) found ≡ b
         → Kind steps was (cond b (record q { phase = phase.Steps; is_looked = true }) (stopped_after q (end.Does found)))
         (marks_of (cond b (record q { phase = phase.Steps; is_looked = true }) (stopped_after q (end.Does found))).list.begun
         (cond b (act.Does found) (stopped_act q (end.Does found))))
@@ -374,14 +381,15 @@ module _ (steps : Places) (was : Sequence) where
 
     found-kind : (q : Sequence) → q.list.begun ≡ was.list.begun → q.is_shown ≡ was.is_shown → q.is_looked ≡ was.is_looked → q.left ≡ was.left
         → q.end ≡ None → (p : Phase) (verdict : Verdict)
-        → Kind steps was (judged_in p q (under_at steps was.list.begun) verdict)
-        (marks_of (judged_in p q (under_at steps was.list.begun) verdict).list.begun (found_in p q (under_at steps was.list.begun) verdict))
+        → Kind steps was (judged_in_phase p q (under_at steps was.list.begun) verdict)
+        (marks_of (judged_in_phase p q (under_at steps was.list.begun) verdict).list.begun
+        (found_in p q (under_at steps was.list.begun) verdict))
     found-kind q begun shows looks lefts off phase.Before verdict =
         acted_quiet begun (λ e. sym shows ∙ e) (λ e. sym looks ∙ e) lefts (λ e. absurd (no-end off e))
     found-kind q begun shows looks lefts off phase.Steps verdict =
-        done-by q begun shows looks lefts off verdict (is_good (under_at steps was.list.begun) verdict) refl
+        done-by q begun shows looks lefts off verdict (is_verdict_good (under_at steps was.list.begun) verdict) refl
     found-kind q begun shows looks lefts off phase.After verdict =
-        done-by q begun shows looks lefts off verdict (is_good (under_at steps was.list.begun) verdict) refl
+        done-by q begun shows looks lefts off verdict (is_verdict_good (under_at steps was.list.begun) verdict) refl
 
     said-kind : (g : Guarded) (l : Look) (x : LookAct)
         → Kind steps was (said_after g (with_look was l) (under_at steps was.list.begun) x)
@@ -400,10 +408,10 @@ module _ (steps : Places) (was : Sequence) where
   kind g said new (does.ended why is) = acted_quiet refl (λ e. e) (λ e. e) refl (λ e. e)
   kind g said new (does.steps said' new' on is says) = steps-kind on g said new says
   kind g said new (does.before on is) =
-      said-kind on g (look_after was.look g.host.setup.passes (due_in g was.look.delivery))
+      said-kind on g (look_after_due was.look g.host.setup.passes (due_in g was.look.delivery))
       (look_act was.look g.host.setup.passes (due_in g was.look.delivery))
   kind g said new (does.after on is) =
-      said-kind on g (look_after was.look g.host.setup.passes (due_in g was.look.delivery))
+      said-kind on g (look_after_due was.look g.host.setup.passes (due_in g was.look.delivery))
       (look_act was.look g.host.setup.passes (due_in g was.look.delivery))
 
   -- a job is named before the end alone
@@ -439,7 +447,7 @@ module _ (q : Sequence) (unread : q.is_read ≡ false) where
   stop-read : (list : List) (why : End) → (stopped_after (with_list q list) why).is_read ≡ true → ⊥
   stop-read list why = either-read ⊥ (q.leaves && may_leave why) (left_out (with_list q list)) (record q { list = list; end = Some why }) never never
 
-  before-read : (list : List) (step : Option SequenceStep) → (look_before (with_list q list) step).is_read ≡ true → ⊥
+  before-read : (list : List) (step : Option SequenceStep) → (look_before_step (with_list q list) step).is_read ≡ true → ⊥
   before-read list None = never
   before-read list (Some step) = λ e. true≢false (sym e)
 
@@ -471,7 +479,7 @@ module _ (q : Sequence) (unread : q.is_read ≡ false) where
   turn-read g under ahead turn.Again list = either-read ⊥ (list.begun == q.list.begun) (with_list q list) (begun_with q list) never never
   turn-read g under ahead (turn.Job job) list =
       gate-read (asked_list q.list list false) under job (job_after q job list)
-      (either-read ⊥ (is_order job) _ (read_after q list) never never) (gate g q under job list false)
+      (either-read ⊥ (is_job_order job) _ (read_after q list) never never) (gate g q under job list false)
   turn-read g under ahead (turn.Begins job back) list =
       gate-read (asked_list q.list list true) ahead job (begun_by g q job list) never (gate g q ahead job list true)
   turn-read g under ahead (turn.Passes back) list = never
@@ -485,47 +493,47 @@ module _ (q : Sequence) (unread : q.is_read ≡ false) where
 
 -- ---- A look before ----
 
-asked-none : (o : Option Question) → asked o ≡ due.Nothing → o ≡ None
+asked-none : (o : Option Question) → due_question o ≡ due.Nothing → o ≡ None
 asked-none None is = refl
 asked-none (Some question) is = cc
 
-none-again : (o : Option Question) → asked o ≡ due.Again → ⊥
+none-again : (o : Option Question) → due_question o ≡ due.Again → ⊥
 none-again None is = cc
 none-again (Some question) is = cc
 
 -- what is due of a look before
-pub due-is : (g : Guarded) (d : Delivery) → d.look ≡ before_number → nat_lt d.output 8 ≡ true → due_in g d ≡ asked (due_before d g.host.setup.passes)
+pub due-is : (g : Guarded) (d : Delivery) → d.look ≡ before_number → nat_lt d.output 8 ≡ true → due_in g d ≡ due_question (question_due_before d g.host.setup.passes)
 due-is g d at small =
     let here : (d.look == before_number) ≡ true = eq-eqb d.look before_number at in
     rw (small, here) refl
 
 nothing-by : (l : Look) (a b c : Bool) → cond a (cond b look.Probe look.Again) (found_act c due.Nothing) ≡ look.Over
-    → (cond a (cond b l (counted l)) (found_after c l due.Nothing)).delivery ≡ l.delivery
+    → (cond a (cond b l (look_counted l)) (found_after c l due.Nothing)).delivery ≡ l.delivery
 nothing-by l true true c is = cc
 nothing-by l true false c is = cc
 nothing-by l false b true is = cc
 nothing-by l false b false is = refl
 
 -- nothing is left to ask once a look before is over, and what was heard stays
-over-facts : (l : Look) (passes : ℕ) (o : Option Question) → look_act l passes (asked o) ≡ look.Over
-    → (o ≡ None) × ((look_after l passes (asked o)).delivery ≡ l.delivery)
-over-facts l passes None is = (refl, nothing-by l (asks_operation l && not l.probe.is_over) (probe_due passes l) (is_lost l) is)
+over-facts : (l : Look) (passes : ℕ) (o : Option Question) → look_act l passes (due_question o) ≡ look.Over
+    → (o ≡ None) × ((look_after_due l passes (due_question o)).delivery ≡ l.delivery)
+over-facts l passes None is = (refl, nothing-by l (asks_operation l && not l.probe.is_over) (probe_due passes l) (is_output_lost l) is)
 over-facts l passes (Some question) is = cc
 
 look-facts : (g : Guarded) (l : Look) → l.delivery.look ≡ before_number → nat_lt l.delivery.output 8 ≡ true
     → look_act l g.host.setup.passes (due_in g l.delivery) ≡ look.Over
-    → (due_before l.delivery g.host.setup.passes ≡ None)
-    × ((look_after l g.host.setup.passes (due_in g l.delivery)).delivery ≡ l.delivery)
+    → (question_due_before l.delivery g.host.setup.passes ≡ None)
+    × ((look_after_due l g.host.setup.passes (due_in g l.delivery)).delivery ≡ l.delivery)
 look-facts g l at small is =
     let P = g.host.setup.passes in
-    let o = due_before l.delivery P in
-    let d : due_in g l.delivery ≡ asked o = due-is g l.delivery at small in
+    let o = question_due_before l.delivery P in
+    let d : due_in g l.delivery ≡ due_question o = due-is g l.delivery at small in
     let facts = over-facts l P o (subst (λ (x : Due). look_act l P x ≡ look.Over) d is) in
-    (facts.0, subst (λ (x : Due). (look_after l P x).delivery ≡ l.delivery) (sym d) facts.1)
+    (facts.0, subst (λ (x : Due). (look_after_due l P x).delivery ≡ l.delivery) (sym d) facts.1)
 
 module _ (g : Guarded) (q : Sequence) (unread : q.is_read ≡ false) (under : Option SequenceStep) where
   done-read : (l : Look) (found : Verdict) → (done_after (with_look q l) under found).is_read ≡ true → ⊥
-  done-read l found = either-read ⊥ (is_good under found) _ (stopped_after (with_look q l) (end.Does found)) (never q unread)
+  done-read l found = either-read ⊥ (is_verdict_good under found) _ (stopped_after (with_look q l) (end.Does found)) (never q unread)
       (either-read ⊥ (q.leaves && may_leave (end.Does found)) (left_out (with_look q l)) _ (never q unread) (never q unread))
 
   after-read : q.phase ≡ phase.After → (l : Look) (x : LookAct) → (said_after g (with_look q l) under x).is_read ≡ true → ⊥
@@ -536,13 +544,13 @@ module _ (g : Guarded) (q : Sequence) (unread : q.is_read ≡ false) (under : Op
   after-read is l look.Restarted =
       either-read ⊥ (q.leaves && may_leave (end.Stopped ended.Restarted)) (left_out (with_look q l)) _ (never q unread) (never q unread)
   after-read is l look.Over =
-      subst (λ (p : Phase). (judged_in p (with_look q l) under (verdict_in g l.delivery)).is_read ≡ true → ⊥) (sym is)
+      subst (λ (p : Phase). (judged_in_phase p (with_look q l) under (verdict_in g l.delivery)).is_read ≡ true → ⊥) (sym is)
       (done-read l (verdict_in g l.delivery))
 
   before-so : q.phase ≡ phase.Before → q.look.delivery.look ≡ before_number → nat_lt q.look.delivery.output 8 ≡ true
       → (x : LookAct) → look_act q.look g.host.setup.passes (due_in g q.look.delivery) ≡ x
-      → (said_after g (with_look q (look_after q.look g.host.setup.passes (due_in g q.look.delivery))) under x).is_read ≡ true
-      → WasRead g q (said_after g (with_look q (look_after q.look g.host.setup.passes (due_in g q.look.delivery))) under x)
+      → (said_after g (with_look q (look_after_due q.look g.host.setup.passes (due_in g q.look.delivery))) under x).is_read ≡ true
+      → WasRead g q (said_after g (with_look q (look_after_due q.look g.host.setup.passes (due_in g q.look.delivery))) under x)
   before-so is at small (look.Ask question) h e = absurd (never q unread e)
   before-so is at small look.Probe h e = absurd (never q unread e)
   before-so is at small look.Pause h e = absurd (never q unread e)
@@ -551,10 +559,10 @@ module _ (g : Guarded) (q : Sequence) (unread : q.is_read ≡ false) (under : Op
       absurd (either-read ⊥ (q.leaves && may_leave (end.Stopped ended.Restarted)) _ _ (never q unread) (never q unread) e)
   before-so is at small look.Over h e =
       let facts = look-facts g q.look at small h in
-      let l = look_after q.look g.host.setup.passes (due_in g q.look.delivery) in
+      let l = look_after_due q.look g.host.setup.passes (due_in g q.look.delivery) in
       record {
         asked = facts.0;
-        same = subst (λ (p : Phase). (judged_in p (with_look q l) under (verdict_in g l.delivery)).look.delivery ≡ q.look.delivery) (sym is) facts.1;
+        same = subst (λ (p : Phase). (judged_in_phase p (with_look q l) under (verdict_in g l.delivery)).look.delivery ≡ q.look.delivery) (sym is) facts.1;
       }
 
 pub limits-read : LimitsAreRead
@@ -564,7 +572,7 @@ limits-read g under ahead old new said (does.steps said' new' on is says) at sma
 limits-read g under ahead old new said (does.before on is) at small unread read =
     before-so g old unread under is at small (look_act old.look g.host.setup.passes (due_in g old.look.delivery)) refl read
 limits-read g under ahead old new said (does.after on is) at small unread read =
-    absurd (after-read g old unread under is (look_after old.look g.host.setup.passes (due_in g old.look.delivery))
+    absurd (after-read g old unread under is (look_after_due old.look g.host.setup.passes (due_in g old.look.delivery))
     (look_act old.look g.host.setup.passes (due_in g old.look.delivery)) read)
 
 -- What a run comes to, by what each act is.
@@ -616,7 +624,7 @@ split-at : (m n : ℕ) → m < n + 1 → (b : Bool) → nat_lt m n ≡ b → (m 
 split-at m n less true h = inl (ltb-true m n h)
 split-at m n less false h = let over = ltb-false m n h in inr (omega arith)
 
-more-is : (n : ℕ) → nat_lt n 65535 ≡ true → one_more n ≡ n + 1
+more-is : (n : ℕ) → nat_lt n 65535 ≡ true → one_step_more n ≡ n + 1
 more-is n h = ap (λ (b : Bool). cond b (n + 1) n) h
 
 short-at : (steps : Places) → Short steps → (n : ℕ) (step : SequenceStep) → steps n ≡ Some step → (b : Bool) → nat_lt n 65535 ≡ b
@@ -674,7 +682,7 @@ module _ (steps : Places) (short : Short steps) (marks : CommonList Mark) (old n
     earlier = λ none place less it. does-apart _ _ _ (apart-so place less)
         (inv.earlier (sym lefts ∙ none) place (subst (λ (n : ℕ). suc place < n) begun less) it);
     current = λ none on it. does-here _ _ _ (eq-eqb new.list.begun new.list.begun refl)
-        (ap (λ (n : ℕ). is_good (under_at steps n) found) begun ∙ good);
+        (ap (λ (n : ℕ). is_verdict_good (under_at steps n) found) begun ∙ good);
     clean = λ none. inv.clean (sym lefts ∙ none);
     over = λ e. absurd (never e);
   }
@@ -797,17 +805,17 @@ data FindsSo (g : Guarded) (under : Option SequenceStep) (new : Sequence) : Act 
   found_none : (said : Act) → is_find said ≡ false → FindsSo g under new said
 
 finds-by : (g : Guarded) (q : Sequence) (under : Option SequenceStep) (b : Bool)
-    → is_good under (verdict_in g q.look.delivery) ≡ b
+    → is_verdict_good under (verdict_in g q.look.delivery) ≡ b
     → FindsSo g under (cond b (record q { phase = phase.Steps; is_looked = true }) (stopped_after q (end.Does (verdict_in g q.look.delivery))))
     (cond b (act.Does (verdict_in g q.look.delivery)) (stopped_act q (end.Does (verdict_in g q.look.delivery))))
 finds-by g q under true good = a-find _ (record { is = refl; good = good })
 finds-by g q under false good = found_none _ (stop-quiet q (end.Does (verdict_in g q.look.delivery)))
 
 found-so : (g : Guarded) (p : Phase) (q : Sequence) (under : Option SequenceStep)
-    → FindsSo g under (judged_in p q under (verdict_in g q.look.delivery)) (found_in p q under (verdict_in g q.look.delivery))
+    → FindsSo g under (judged_in_phase p q under (verdict_in g q.look.delivery)) (found_in p q under (verdict_in g q.look.delivery))
 found-so g phase.Before q under = found_none act.Again refl
-found-so g phase.Steps q under = finds-by g q under (is_good under (verdict_in g q.look.delivery)) refl
-found-so g phase.After q under = finds-by g q under (is_good under (verdict_in g q.look.delivery)) refl
+found-so g phase.Steps q under = finds-by g q under (is_verdict_good under (verdict_in g q.look.delivery)) refl
+found-so g phase.After q under = finds-by g q under (is_verdict_good under (verdict_in g q.look.delivery)) refl
 
 said-so : (g : Guarded) (q : Sequence) (under : Option SequenceStep) (x : LookAct)
     → FindsSo g under (said_after g q under x) (said_act g q under x)
@@ -827,10 +835,10 @@ acts-so : (g : Guarded) (under ahead : Option SequenceStep) (q new : Sequence) (
 acts-so g under ahead q new said (does.ended why is) = found_none (act.Ended why) refl
 acts-so g under ahead q new said (does.steps said' new' on is says) = steps-so g under ahead q new said says
 acts-so g under ahead q new said (does.before on is) =
-    said-so g (with_look q (look_after q.look g.host.setup.passes (due_in g q.look.delivery))) under
+    said-so g (with_look q (look_after_due q.look g.host.setup.passes (due_in g q.look.delivery))) under
     (look_act q.look g.host.setup.passes (due_in g q.look.delivery))
 acts-so g under ahead q new said (does.after on is) =
-    said-so g (with_look q (look_after q.look g.host.setup.passes (due_in g q.look.delivery))) under
+    said-so g (with_look q (look_after_due q.look g.host.setup.passes (due_in g q.look.delivery))) under
     (look_act q.look g.host.setup.passes (due_in g q.look.delivery))
 
 find-of : (g : Guarded) (under : Option SequenceStep) (new : Sequence) (found : Verdict) → FindsSo g under new (act.Does found)
@@ -844,7 +852,8 @@ by-must true true must is = cc
 by-must true false must is = cc
 by-must false m must is = cc
 
-delivers-so : (step : SequenceStep) (x : Verdict) → step.looks.must_deliver ≡ true → is_good (Some step) x ≡ true → IsDelivered step x
+delivers-so : (step : SequenceStep) (x : Verdict) → step.looks.must_deliver ≡ true → is_verdict_good (Some step) x ≡ true →
+    IsDelivered step x
 delivers-so step verdict.Delivers must is = delivers
 delivers-so step verdict.DeliversByVoltage must is = by_voltage
 delivers-so step verdict.WentOff must is = went_off
@@ -898,15 +907,16 @@ module _ (under ahead : Option SequenceStep) where
         either-starts (q.leaves && may_leave why) (left_out (with_list q list)) (record q { list = list; end = Some why })
         (λ e. absurd (stood_never phase.Steps refl e)) off
 
-    under-starts : (list : List) (step : Option SequenceStep) → under ≡ step → Starts (look_before (with_list q list) step)
+    under-starts : (list : List) (step : Option SequenceStep) → under ≡ step → Starts (look_before_step (with_list q list) step)
     under-starts list None is = off
     under-starts list (Some step) is = λ e. (step, (inl is, refl))
 
-    ahead-starts : (list : List) (step : Option SequenceStep) → ahead ≡ step → Starts (look_before (with_list q list) step)
+    ahead-starts : (list : List) (step : Option SequenceStep) → ahead ≡ step → Starts (look_before_step (with_list q list) step)
     ahead-starts list None is = off
     ahead-starts list (Some step) is = λ e. (step, (inr is, refl))
 
-    gate-starts : (list : List) (step : Option SequenceStep) (job : Job) (after : Sequence) → Starts (look_before (with_list q list) step)
+    gate-starts : (list : List) (step : Option SequenceStep) (job : Job) (after : Sequence) →
+        Starts (look_before_step (with_list q list) step)
         → Starts after → (is : Gate) → Starts (gated_after (with_list q list) step is job after)
     gate-starts list step job after looks goes gate_is.Goes =
         either-starts (is_untold q.asks q.told job) (told_with (with_list q list) job) after off goes
@@ -931,7 +941,7 @@ module _ (under ahead : Option SequenceStep) where
         either-starts (list.begun == q.list.begun) (with_list q list) (begun_with q list) off off
     turn-starts (turn.Job job) list =
         gate-starts (asked_list q.list list false) under job (job_after q job list) (under-starts (asked_list q.list list false) under refl)
-        (either-starts (is_order job) _ (read_after q list) off off) (gate g q under job list false)
+        (either-starts (is_job_order job) _ (read_after q list) off off) (gate g q under job list false)
     turn-starts (turn.Begins job back) list =
         gate-starts (asked_list q.list list true) ahead job (begun_by g q job list) (ahead-starts (asked_list q.list list true) ahead refl) off
         (gate g q ahead job list true)
@@ -969,11 +979,11 @@ status-due true true rest never is = refl
 status-due true false rest never is = absurd (never is)
 status-due false b rest never is = absurd (never is)
 
-before-due : (d : Delivery) (passes : ℕ) → due_before d passes ≡ Some Before → is_due passes d.before ≡ true
+before-due : (d : Delivery) (passes : ℕ) → question_due_before d passes ≡ Some Before → is_question_due passes d.before ≡ true
 before-due d passes is =
-    status-due (has_status d) (is_due passes d.before) (asks_limits d passes)
-    (never-limits (d.fault_limits == limits_skip) (is_due passes d.ov_fault_limit) (is_due passes d.ov_warn_limit)
-    (is_due passes d.uv_warn_limit) (is_due passes d.uv_fault_limit)) is
+    status-due (has_status d) (is_question_due passes d.before) (asks_limits d passes)
+    (never-limits (d.fault_limits == limits_skip) (is_question_due passes d.ov_fault_limit) (is_question_due passes d.ov_warn_limit)
+    (is_question_due passes d.uv_warn_limit) (is_question_due passes d.uv_fault_limit)) is
 
 round-never : (a b c : Bool) → cond a (cond b look.Probe look.Again) (found_act c due.Nothing) ≡ look.Ask Before → ⊥
 round-never true true c is = cc
@@ -985,8 +995,8 @@ stops-never : (b : Bool) (why : End) → cond b (act.Leaves why) (act.Ended why)
 stops-never true why is = cc
 stops-never false why is = cc
 
-asked-before : (l : Look) (passes : ℕ) (o : Option Question) → look_act l passes (asked o) ≡ look.Ask Before → o ≡ Some Before
-asked-before l passes None is = absurd (round-never (asks_operation l && not l.probe.is_over) (probe_due passes l) (is_lost l) is)
+asked-before : (l : Look) (passes : ℕ) (o : Option Question) → look_act l passes (due_question o) ≡ look.Ask Before → o ≡ Some Before
+asked-before l passes None is = absurd (round-never (asks_operation l && not l.probe.is_over) (probe_due passes l) (is_output_lost l) is)
 asked-before l passes (Some question) is = let same : question ≡ Before = cc in ap (λ (x : Question). Some x) same
 
 module _ (g : Guarded) (q : Sequence) (under : Option SequenceStep) (on : q.phase ≡ phase.Before) where
@@ -1002,18 +1012,18 @@ module _ (g : Guarded) (q : Sequence) (under : Option SequenceStep) (on : q.phas
       sym (ap (λ (p : Phase). found_in p (with_look q l) under (verdict_in g l.delivery)) on) ∙ is in cc
 
   asks-due : q.look.delivery.look ≡ before_number → nat_lt q.look.delivery.output 8 ≡ true → looked_act g q under ≡ act.Ask Before
-      → is_due g.host.setup.passes q.look.delivery.before ≡ true
+      → is_question_due g.host.setup.passes q.look.delivery.before ≡ true
   asks-due at small is =
       let P = g.host.setup.passes in
       let d = q.look.delivery in
       let said : look_act q.look P (due_in g d) ≡ look.Ask Before =
-      said-before (look_after q.look P (due_in g d)) (look_act q.look P (due_in g d)) is in
-      before-due d P (asked-before q.look P (due_before d P)
+      said-before (look_after_due q.look P (due_in g d)) (look_act q.look P (due_in g d)) is in
+      before-due d P (asked-before q.look P (question_due_before d P)
       (subst (λ (x : Due). look_act q.look P x ≡ look.Ask Before) (due-is g d at small) said))
 
 asks-so : (g : Guarded) (under ahead : Option SequenceStep) (old new : Sequence) (said : Act) → Acts g under ahead old said new
     → said ≡ act.Ask Before → old.phase ≡ phase.Before → old.look.delivery.look ≡ before_number → nat_lt old.look.delivery.output 8 ≡ true
-    → is_due g.host.setup.passes old.look.delivery.before ≡ true
+    → is_question_due g.host.setup.passes old.look.delivery.before ≡ true
 asks-so g under ahead old new said (does.ended why is) asks on at small = cc
 asks-so g under ahead old new said (does.steps said' new' going is says) asks on at small =
     let wrong : phase.Steps ≡ phase.Before = sym is ∙ on in cc

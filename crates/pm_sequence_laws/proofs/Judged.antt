@@ -26,11 +26,12 @@ use Rattle.pm_sequence.specs.{declared.sequence.End.End, declared.sequence.Fresh
 use Rattle.pm_sequence.specs.{declared.sequence.Sequence.Sequence, declared.step.Step.Step}
 use Rattle.pm_sequence.specs.Frames as hear
 use Rattle.pm_sequence.specs.Frames.{Hears, fresh_heard}
-use Rattle.pm_sequence.specs.Gate.{is_order, is_untold, is_on_order, is_told, order_gate, same_order, step_gate}
-use Rattle.pm_sequence.specs.Look.{look_act, look_after}
+use Rattle.pm_sequence.specs.Gate.{is_job_order, is_untold, is_on_order, is_order_told, order_gate, same_order, step_gate}
+use Rattle.pm_sequence.specs.Look.{look_act, look_after_due}
 use Rattle.pm_sequence.specs.Sequence as does
 use Rattle.pm_sequence.specs.Sequence.{Acts, Steps, after_of, ahead_after, asked_list, asked_of, begun_by, begun_with, done_after, due_in}
-use Rattle.pm_sequence.specs.Sequence.{gate, gated_after, is_good, job_after, judged_in, left_out, look_before, may_leave, needs_look}
+use Rattle.pm_sequence.specs.Sequence.{gate, gated_after, is_verdict_good, job_after, judged_in_phase, left_out, look_before_step}
+use Rattle.pm_sequence.specs.Sequence.{may_leave, needs_look}
 use Rattle.pm_sequence.specs.Sequence.{over_after, read_after, said_after, shown, spent_end, stopped_after, told_with, verdict_in}
 use Rattle.pm_sequence.specs.Sequence.{with_list, with_look, act_of, ahead_act, done_act, found_in, fresh_gate, gated_act, had_two}
 use Rattle.pm_sequence.specs.Sequence.{is_fresh, is_read_for, judged_gate, looked_act, over_act, said_act, stopped_act, twice_gate, afresh}
@@ -45,7 +46,7 @@ use Rattle.pm_sequence_laws.specs.Fresh.{ComesFresh, OrdersAreFresh, anew, ends,
 use Rattle.pm_sequence_laws.specs.Judged as due
 use Rattle.pm_sequence_laws.specs.Judged.{IsDue, IsJudged, IsTold, OrdersAreJudged, OrdersAreTold}
 use Rattle.pm_sequence_laws.specs.Turned as it
-use Rattle.pm_sequence_laws.specs.Turned.{IsKept, ListGoes, SequencesTurn, is_begin}
+use Rattle.pm_sequence_laws.specs.Turned.{IsKept, ListGoes, SequencesTurn, is_turn_begin}
 use Rattle.pm_sequence_laws.specs.Twice.{CountsOn, OrdersStopAtTwo, at_once, counts, first as twice_first, keeps, passes}
 
 -- How the list of a sequence goes, act by act.
@@ -55,7 +56,7 @@ pub either-list : (b : Bool) (x y : Sequence) (list : List) → x.list ≡ list 
 either-list true x y list first second = first
 either-list false x y list first second = second
 
-before-list : (q : Sequence) (step : Option Step) → (look_before q step).list ≡ q.list
+before-list : (q : Sequence) (step : Option Step) → (look_before_step q step).list ≡ q.list
 before-list q None = refl
 before-list q (Some step) = refl
 
@@ -94,7 +95,7 @@ module _ (g : Guarded) (ahead : Option Placed) (leaves_steps : Bool) where
   stopping old list new x turned (kept is) = saying old list new x turned is
   stopping old list new x turned (left leaves is) = it.says_and_leaves x list turned leaves is
 
-  asking : (old list new : List) (x : Turn) → Turns g ahead old x list → Stops leaves_steps (asked_list old list (is_begin x)) new
+  asking : (old list new : List) (x : Turn) → Turns g ahead old x list → Stops leaves_steps (asked_list old list (is_turn_begin x)) new
       → ListGoes g ahead leaves_steps old new
   asking old list new x turned (kept is) = it.asked x list turned is
   asking old list new x turned (left leaves is) = it.asked_and_leaves x list turned leaves is
@@ -106,18 +107,20 @@ module _ (g : Guarded) (ahead : Option Placed) (leaves_steps : Bool) where
 
 gate-so : (g : Guarded) (ahead : Option Placed) (q : Sequence) (step : Option Step) (job : Job) (after : Sequence) (list : List) (x : Turn)
     → Turns g ahead q.list x list → after.list ≡ list → (is : Gate)
-    → ListGoes g ahead q.leaves q.list (gated_after (asked_of q list (is_begin x)) step is job after).list
+    → ListGoes g ahead q.leaves q.list (gated_after (asked_of q list (is_turn_begin x)) step is job after).list
 gate-so g ahead q step job after list x turned is gate_is.Goes =
-    either-goes g ahead q.leaves q.list (is_untold q.asks q.told job) (told_with (asked_of q list (is_begin x)) job) after
+    either-goes g ahead q.leaves q.list (is_untold q.asks q.told job) (told_with (asked_of q list (is_turn_begin x)) job) after
     (it.asked x list turned refl) (saying g ahead q.leaves q.list list after.list x turned is)
-gate-so g ahead q step job after list x turned is gate_is.Looks = it.asked x list turned (before-list (asked_of q list (is_begin x)) step)
+gate-so g ahead q step job after list x turned is gate_is.Looks =
+    it.asked x list turned (before-list (asked_of q list (is_turn_begin x)) step)
 gate-so g ahead q step job after list x turned is (gate_is.Beyond fault) =
-    asking g ahead q.leaves q.list list _ x turned (stop-list (asked_of q list (is_begin x)) (end.Beyond fault))
+    asking g ahead q.leaves q.list list _ x turned (stop-list (asked_of q list (is_turn_begin x)) (end.Beyond fault))
 gate-so g ahead q step job after list x turned is gate_is.Blind = it.surveyed_anew x list turned refl
 gate-so g ahead q step job after list x turned is gate_is.Unjudged =
-    asking g ahead q.leaves q.list list _ x turned (stop-list (asked_of q list (is_begin x)) end.Unjudged)
+    asking g ahead q.leaves q.list list _ x turned (stop-list (asked_of q list (is_turn_begin x)) end.Unjudged)
 gate-so g ahead q step job after list x turned is gate_is.Twice =
-    asking g ahead q.leaves q.list list _ x turned (stop-list (asked_of q list (is_begin x)) (spent_end (asked_of q list (is_begin x))))
+    asking g ahead q.leaves q.list list _ x turned
+    (stop-list (asked_of q list (is_turn_begin x)) (spent_end (asked_of q list (is_turn_begin x))))
 
 turn-so : (g : Guarded) (under ahead : Option Step) (q : Sequence) (x : Turn) (list : List) → Turns g (shown q ahead) q.list x list
     → ListGoes g (shown q ahead) q.leaves q.list (after_of g under ahead q x list).list
@@ -126,7 +129,7 @@ turn-so g under ahead q turn.Again list turned =
     (either-list (list.begun == q.list.begun) (with_list q list) (begun_with q list) list refl refl)
 turn-so g under ahead q (turn.Job job) list turned =
     gate-so g (shown q ahead) q under job (job_after q job list) list (turn.Job job) turned
-    (either-list (is_order job) _ (read_after q list) list refl refl) (gate g q under job list false)
+    (either-list (is_job_order job) _ (read_after q list) list refl refl) (gate g q under job list false)
 turn-so g under ahead q (turn.Begins job back) list turned =
     gate-so g (shown q ahead) q ahead job (begun_by g q job list) list (turn.Begins job back) turned refl (gate g q ahead job list true)
 turn-so g under ahead q (turn.Passes back) list turned = it.says (turn.Passes back) turned
@@ -142,10 +145,11 @@ done-by : (q : Sequence) (found : Verdict) (b : Bool)
 done-by q found true = kept refl
 done-by q found false = stop-list q (end.Does found)
 
-found-so : (p : Phase) (q : Sequence) (under : Option Step) (verdict : Verdict) → Stops q.leaves q.list (judged_in p q under verdict).list
+found-so : (p : Phase) (q : Sequence) (under : Option Step) (verdict : Verdict) →
+    Stops q.leaves q.list (judged_in_phase p q under verdict).list
 found-so phase.Before q under verdict = kept refl
-found-so phase.Steps q under verdict = done-by q verdict (is_good under verdict)
-found-so phase.After q under verdict = done-by q verdict (is_good under verdict)
+found-so phase.Steps q under verdict = done-by q verdict (is_verdict_good under verdict)
+found-so phase.After q under verdict = done-by q verdict (is_verdict_good under verdict)
 
 said-so : (g : Guarded) (q : Sequence) (under : Option Step) (x : LookAct) → Stops q.leaves q.list (said_after g q under x).list
 said-so g q under (look.Ask question) = kept refl
@@ -165,11 +169,11 @@ acts-so g under ahead q new said (does.ended why is) = it.stays refl
 acts-so g under ahead q new said (does.steps said' new' on is says) = steps-so g under ahead q new said says
 acts-so g under ahead q new said (does.before on is) =
     staying g (shown q ahead) q.leaves q.list _
-    (said-so g (with_look q (look_after q.look g.host.setup.passes (due_in g q.look.delivery))) under
+    (said-so g (with_look q (look_after_due q.look g.host.setup.passes (due_in g q.look.delivery))) under
     (look_act q.look g.host.setup.passes (due_in g q.look.delivery)))
 acts-so g under ahead q new said (does.after on is) =
     staying g (shown q ahead) q.leaves q.list _
-    (said-so g (with_look q (look_after q.look g.host.setup.passes (due_in g q.look.delivery))) under
+    (said-so g (with_look q (look_after_due q.look g.host.setup.passes (due_in g q.look.delivery))) under
     (look_act q.look g.host.setup.passes (due_in g q.look.delivery)))
 
 kept-so : (g : Guarded) (tries : ℕ) (ahead shut : Option Output) (old new : Stairs) (x : Move) → Goes g tries shut old x new → shut ≡ None
@@ -221,7 +225,7 @@ over-quiet q (Some step) ahead = either (needs_look q step) act.Again (ahead_act
 
 done-quiet : (q : Sequence) (under : Option Step) (found : Verdict) → is_named (done_act q under found) ≡ false
 done-quiet q under found =
-    either (is_good under found) (act.Does found) (stopped_act q (end.Does found)) refl (stop-quiet q (end.Does found))
+    either (is_verdict_good under found) (act.Does found) (stopped_act q (end.Does found)) refl (stop-quiet q (end.Does found))
 
 found-quiet : (p : Phase) (q : Sequence) (under : Option Step) (said : Verdict) → is_named (found_in p q under said) ≡ false
 found-quiet phase.Before q under said = refl
@@ -446,27 +450,27 @@ module _ (apart : CellsAreToldApart) where
       let same : x ≡ y = (Decides-int_eq x y).0 parts.1 in rw (cells, same) refl
   same-so job other is = cc
 
-  told-so : (told : Option Job) (job : Job) → is_told told job ≡ true → told ≡ Some job
+  told-so : (told : Option Job) (job : Job) → is_order_told told job ≡ true → told ≡ Some job
   told-so None job is = cc
   told-so (Some other) job is = ap (λ (x : Job). Some x) (same-so other job is)
 
-  told-of : (q : Sequence) (job : Job) → is_untold q.asks q.told job ≡ false → q.asks ≡ true → is_order job ≡ true → q.told ≡ Some job
-  told-of q job untold asks order = told-so q.told job (told-parts q.asks (is_order job) (is_told q.told job) untold asks order)
+  told-of : (q : Sequence) (job : Job) → is_untold q.asks q.told job ≡ false → q.asks ≡ true → is_job_order job ≡ true → q.told ≡ Some job
+  told-of q job untold asks order = told-so q.told job (told-parts q.asks (is_job_order job) (is_order_told q.told job) untold asks order)
 
   job-told : (g : Guarded) (under ahead : Option Step) (q new : Sequence) (job : Job) → NamesSo g under ahead q new (act.Job job)
-      → q.asks ≡ true → is_order job ≡ true → q.told ≡ Some job
+      → q.asks ≡ true → is_job_order job ≡ true → q.told ≡ Some job
   job-told g under ahead q new job (a-job job' list says is so told fresh) asks order = told-of q job told asks order
   job-told g under ahead q new job (none said quiet) asks order = cc
 
   begin-told : (g : Guarded) (under ahead : Option Step) (q new : Sequence) (job : Job) (back : WordStep)
-      → NamesSo g under ahead q new (act.Begins job back) → q.asks ≡ true → is_order job ≡ true → q.told ≡ Some job
+      → NamesSo g under ahead q new (act.Begins job back) → q.asks ≡ true → is_job_order job ≡ true → q.told ≡ Some job
   begin-told g under ahead q new job back (a-begin job' back' list says is so told fresh) asks order = told-of q job told asks order
   begin-told g under ahead q new job back (none said quiet) asks order = cc
 
   order-of : (g : Guarded) (under ahead : Option Step) (q new : Sequence) (job : Job) → NamesSo g under ahead q new (act.Order job)
       → (q.asks ≡ true) × IsTold g under ahead q new job
   order-of g under ahead q new job (an-order job' untold due begun told) =
-      let parts = untold-parts q.asks (is_order job) (is_told q.told job) untold in (
+      let parts = untold-parts q.asks (is_job_order job) (is_order_told q.told job) untold in (
         parts.0,
         record {
           order = parts.1;
@@ -518,17 +522,17 @@ module _ (g : Guarded) (under ahead : Option Step) (old : Sequence) where
       fresh_either (q.leaves && may_leave why) (left_out q) (record q { end = Some why }) (act.Leaves why) (act.Ended why)
       (ends (act.Leaves why) refl) (stays (act.Ended why) refl same)
 
-  before-so : (q : Sequence) (step : Option Step) → q.fresh ≡ old.fresh → Comes (look_before q step) act.Again
+  before-so : (q : Sequence) (step : Option Step) → q.fresh ≡ old.fresh → Comes (look_before_step q step) act.Again
   before-so q None same = stays act.Again refl same
   before-so q (Some step) same = stays act.Again refl same
 
   -- a job that reads, or an order
-  read-so : (job : Job) (list : List) → is_order job ≡ false → (b : Bool) → is_fresh old.fresh list.stairs.reading ≡ b
+  read-so : (job : Job) (list : List) → is_job_order job ≡ false → (b : Bool) → is_fresh old.fresh list.stairs.reading ≡ b
       → Comes (record old { list = list; told = None; fresh = cond b old.fresh fresh.Nothing }) (act.Job job)
   read-so job list quiet true own = reads job quiet refl own
   read-so job list quiet false own = ends (act.Job job) refl
 
-  fresh_job-so : (job : Job) (list : List) (b : Bool) → is_order job ≡ b
+  fresh_job-so : (job : Job) (list : List) (b : Bool) → is_job_order job ≡ b
       → Comes (cond b (ordered_after old job list) (read_after old list)) (act.Job job)
   fresh_job-so job list true is = ends (act.Job job) refl
   fresh_job-so job list false is = read-so job list is (is_fresh old.fresh list.stairs.reading) refl
@@ -536,16 +540,17 @@ module _ (g : Guarded) (under ahead : Option Step) (old : Sequence) where
   fresh_gate-so : (step : Option Step) (job : Job) (after : Sequence) (said : Act) (list : List) (x : Turn)
       → Turns g (shown old ahead) old.list x list
       → Comes after said → (is : Gate)
-      → Comes (gated_after (asked_of old list (is_begin x)) step is job after) (gated_act (asked_of old list (is_begin x)) is job said)
+      → Comes (gated_after (asked_of old list (is_turn_begin x)) step is job after)
+      (gated_act (asked_of old list (is_turn_begin x)) is job said)
   fresh_gate-so step job after said list x turned goes gate_is.Goes =
-      fresh_either (is_untold old.asks old.told job) (told_with (asked_of old list (is_begin x)) job) after (act.Order job) said
+      fresh_either (is_untold old.asks old.told job) (told_with (asked_of old list (is_turn_begin x)) job) after (act.Order job) said
       (stays (act.Order job) refl refl) goes
-  fresh_gate-so step job after said list x turned goes gate_is.Looks = before-so (asked_of old list (is_begin x)) step refl
+  fresh_gate-so step job after said list x turned goes gate_is.Looks = before-so (asked_of old list (is_turn_begin x)) step refl
   fresh_gate-so step job after said list x turned goes (gate_is.Beyond fault) =
-      stop-so (asked_of old list (is_begin x)) (end.Beyond fault) refl
-  fresh_gate-so step job after said list x turned goes gate_is.Unjudged = stop-so (asked_of old list (is_begin x)) end.Unjudged refl
+      stop-so (asked_of old list (is_turn_begin x)) (end.Beyond fault) refl
+  fresh_gate-so step job after said list x turned goes gate_is.Unjudged = stop-so (asked_of old list (is_turn_begin x)) end.Unjudged refl
   fresh_gate-so step job after said list x turned goes gate_is.Twice =
-      stop-so (asked_of old list (is_begin x)) (spent_end (asked_of old list (is_begin x))) refl
+      stop-so (asked_of old list (is_turn_begin x)) (spent_end (asked_of old list (is_turn_begin x))) refl
   fresh_gate-so step job after said list x turned goes gate_is.Blind =
       anew act.Again (record {
         x = x;
@@ -553,7 +558,7 @@ module _ (g : Guarded) (under ahead : Option Step) (old : Sequence) where
         names = turned;
         is = refl;
         again = refl;
-        unread = unread (asked_of old list (is_begin x)).list;
+        unread = unread (asked_of old list (is_turn_begin x)).list;
       })
 
   ahead-so : (q : Sequence) (a : Option Step) → q.fresh ≡ old.fresh → Comes (ahead_after q a) (ahead_act q a)
@@ -578,7 +583,8 @@ module _ (g : Guarded) (under ahead : Option Step) (old : Sequence) where
   fresh_turn-so turn.Again list turned =
       again-by (list.begun == old.list.begun) (with_list old list) (begun_with old list) (stays act.Again refl refl) (ends act.Again refl)
   fresh_turn-so (turn.Job job) list turned =
-      fresh_gate-so under job (job_after old job list) (act.Job job) list (turn.Job job) turned (fresh_job-so job list (is_order job) refl)
+      fresh_gate-so under job (job_after old job list) (act.Job job) list (turn.Job job) turned
+      (fresh_job-so job list (is_job_order job) refl)
       (gate g old under job list false)
   fresh_turn-so (turn.Begins job back) list turned =
       fresh_gate-so ahead job (begun_by g old job list) (act.Begins job back) list (turn.Begins job back) turned
@@ -601,12 +607,12 @@ module _ (g : Guarded) (under ahead : Option Step) (old : Sequence) where
 
   done-so : (q : Sequence) (found : Verdict) → q.fresh ≡ fresh.Nothing → Comes (done_after q under found) (done_act q under found)
   done-so q found gone =
-      fresh_either (is_good under found) (record q { phase = phase.Steps; is_looked = true }) (stopped_after q (end.Does found))
+      fresh_either (is_verdict_good under found) (record q { phase = phase.Steps; is_looked = true }) (stopped_after q (end.Does found))
       (act.Does found)
       (stopped_act q (end.Does found)) (ends (act.Does found) gone) (left-so q (end.Does found) gone)
 
   fresh_found-so : (p : Phase) (q : Sequence) (found : Verdict) → q.fresh ≡ fresh.Nothing
-      → Comes (judged_in p q under found) (found_in p q under found)
+      → Comes (judged_in_phase p q under found) (found_in p q under found)
   fresh_found-so phase.Before q found gone = ends act.Again gone
   fresh_found-so phase.Steps q found gone = done-so q found gone
   fresh_found-so phase.After q found gone = done-so q found gone
@@ -623,10 +629,10 @@ module _ (g : Guarded) (under ahead : Option Step) (old : Sequence) where
   comes new said (does.ended why is) = stays (act.Ended why) refl refl
   comes new said (does.steps said' new' on is says) = fresh_steps-so new said says
   comes new said (does.before on is) =
-      fresh_said-so (look_after old.look g.host.setup.passes (due_in g old.look.delivery))
+      fresh_said-so (look_after_due old.look g.host.setup.passes (due_in g old.look.delivery))
       (look_act old.look g.host.setup.passes (due_in g old.look.delivery))
   comes new said (does.after on is) =
-      fresh_said-so (look_after old.look g.host.setup.passes (due_in g old.look.delivery))
+      fresh_said-so (look_after_due old.look g.host.setup.passes (due_in g old.look.delivery))
       (look_act old.look g.host.setup.passes (due_in g old.look.delivery))
 
 fresh_job-of : (g : Guarded) (under ahead : Option Step) (q new : Sequence) (job : Job) → NamesSo g under ahead q new (act.Job job)
@@ -686,7 +692,7 @@ module _ (g : Guarded) (under ahead : Option Step) (old : Sequence) where
       twice_either (q.leaves && may_leave why) (left_out q) (record q { end = Some why }) (act.Leaves why) (act.Ended why)
       (keeps (act.Leaves why) refl same) (keeps (act.Ended why) refl same)
 
-  twice_before-so : (q : Sequence) (step : Option Step) → q.turned_on ≡ old.turned_on → Counts (look_before q step) act.Again
+  twice_before-so : (q : Sequence) (step : Option Step) → q.turned_on ≡ old.turned_on → Counts (look_before_step q step) act.Again
   twice_before-so q None same = keeps act.Again refl same
   twice_before-so q (Some step) same = keeps act.Again refl same
 
@@ -703,14 +709,14 @@ module _ (g : Guarded) (under ahead : Option Step) (old : Sequence) where
       count-so old.turned_on it (is_on_order it) (nat_lt old.turned_on 2) refl refl few (ordered_after old it list) refl refl
 
   -- a job that is no order turns nothing on
-  quiet-so : (it : Job) → is_order it ≡ false → is_on_order it ≡ false
+  quiet-so : (it : Job) → is_job_order it ≡ false → is_on_order it ≡ false
   quiet-so (asked.Order cell word) is = cc
   quiet-so (asked.OrderMicro cell x) is = cc
   quiet-so (asked.Check cell) is = refl
   quiet-so (asked.Learn output) is = refl
   quiet-so (asked.Send command) is = refl
 
-  twice_job-so : (it : Job) (list : List) → (is_on_order it ≡ true → nat_lt old.turned_on 2 ≡ true) → (b : Bool) → is_order it ≡ b
+  twice_job-so : (it : Job) (list : List) → (is_on_order it ≡ true → nat_lt old.turned_on 2 ≡ true) → (b : Bool) → is_job_order it ≡ b
       → Counts (cond b (ordered_after old it list) (read_after old list)) (act.Job it)
   twice_job-so it list few true is = order-so it list few
   twice_job-so it list few false is = keeps (act.Job it) (quiet-so it is) refl
@@ -751,7 +757,7 @@ module _ (g : Guarded) (under ahead : Option Step) (old : Sequence) where
   twice_turn-so turn.Again list = twice_again-by list (list.begun == old.list.begun) refl
   twice_turn-so (turn.Job it) list =
       twice_gate-so under it list false (job_after old it list) (act.Job it) (gate g old under it list false)
-      (λ goes. twice_job-so it list (few-by g old under it list goes) (is_order it) refl)
+      (λ goes. twice_job-so it list (few-by g old under it list goes) (is_job_order it) refl)
   twice_turn-so (turn.Begins it back) list =
       twice_gate-so ahead it list true (begun_by g old it list) (act.Begins it back) (gate g old ahead it list true)
       (λ goes. twice_first it back refl)
@@ -765,12 +771,12 @@ module _ (g : Guarded) (under ahead : Option Step) (old : Sequence) where
   twice_done-so : (q : Sequence) (found : Verdict) → q.turned_on ≡ old.turned_on
       → Counts (done_after q under found) (done_act q under found)
   twice_done-so q found same =
-      twice_either (is_good under found) (record q { phase = phase.Steps; is_looked = true }) (stopped_after q (end.Does found))
+      twice_either (is_verdict_good under found) (record q { phase = phase.Steps; is_looked = true }) (stopped_after q (end.Does found))
       (act.Does found)
       (stopped_act q (end.Does found)) (keeps (act.Does found) refl same) (twice_stop-so q (end.Does found) same)
 
   twice_found-so : (p : Phase) (q : Sequence) (found : Verdict) → q.turned_on ≡ old.turned_on
-      → Counts (judged_in p q under found) (found_in p q under found)
+      → Counts (judged_in_phase p q under found) (found_in p q under found)
   twice_found-so phase.Before q found same = keeps act.Again refl same
   twice_found-so phase.Steps q found same = twice_done-so q found same
   twice_found-so phase.After q found same = twice_done-so q found same
@@ -790,10 +796,10 @@ module _ (g : Guarded) (under ahead : Option Step) (old : Sequence) where
   counts-so new said (does.ended why is) = keeps (act.Ended why) refl refl
   counts-so new said (does.steps said' new' on is says) = twice_steps-so new said says
   counts-so new said (does.before on is) =
-      twice_said-so (look_after old.look g.host.setup.passes (due_in g old.look.delivery))
+      twice_said-so (look_after_due old.look g.host.setup.passes (due_in g old.look.delivery))
       (look_act old.look g.host.setup.passes (due_in g old.look.delivery))
   counts-so new said (does.after on is) =
-      twice_said-so (look_after old.look g.host.setup.passes (due_in g old.look.delivery))
+      twice_said-so (look_after_due old.look g.host.setup.passes (due_in g old.look.delivery))
       (look_act old.look g.host.setup.passes (due_in g old.look.delivery))
 
 twice_heard-so : (g after : Guarded) (old new : Sequence) (entry : Entry) (result : Result (Unit {0}) Untold)

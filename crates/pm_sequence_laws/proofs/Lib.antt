@@ -2,8 +2,6 @@
 pub mod Found
 mod Callers
 mod Steps
-mod CourseCalls
+mod Calls
 pub mod Judged
-pub mod Handed
-mod SequenceCalls
 mod Verdicts

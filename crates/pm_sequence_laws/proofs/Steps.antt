@@ -42,17 +42,19 @@ use Rattle.pm_world.specs.Life.{life, now, state_of}
 use Rattle.pm_world.specs.Lived.{EventsAreLived, IsLived}
 use Rattle.pm_world.specs.Moves.{MovesBy, SettingsMoveByTheOpenJob, came_back, ordered, restored, words_at}
 use Rattle.pm_world.specs.Plans.{Follows, KeepsPlans, MayAsk, PlansHoldInLives, held_at}
-use Rattle.pm_world.specs.Possible.{has_read, restarts_host}
-use Rattle.pm_world.specs.Retelling.{accepts, ends_between, open_pending, pending_of, retold, start_settings, taken_at, takes, told}
+use Rattle.pm_world.specs.Possible.{host_has_read, restarts_host}
+use Rattle.pm_world.specs.Retelling.{accepts, ends_between, open_pending, pending_of, retold, start_settings, taken_at, takes}
+use Rattle.pm_world.specs.Retelling.{steps_of_event}
 use Rattle.pm_world.specs.Retelling.{told_beside}
 use Rattle.pm_world.specs.declared.event.Event.TheVariants.{Deliver, Exchange, Finish, RestartHost, RestartDevice}
-use Rattle.pm_sequence_laws.specs.Back.{back_of, GoesBack, StairsGoBack, back_step, counted_deed, counted_step, downs_of}
+use Rattle.pm_sequence_laws.specs.Back.{undoing_deed, GoesBack, StairsGoBack, back_step, counted_deed, counted_step, downs_of}
 use Rattle.pm_sequence_laws.specs.Followed.{IsKnownFrom, MayNext, StairsAreFollowed}
 use Rattle.pm_sequence_laws.specs.Ordered.{CellsTakeWhatIsOrdered, MayOrder, OrdersOnly, no_word}
-use Rattle.pm_sequence_laws.specs.Stairs.{Stand, counted, counts, stand_by, Deed, Nothing, Sets, Turns, IsAtRest, IsOfStep, IsOver}
-use Rattle.pm_sequence_laws.specs.Stairs.{IsReadFor, MayRest, MayStep, TurnsNothing, done_to, stands_at, AreOver, AreSound, IsBetween}
+use Rattle.pm_sequence_laws.specs.Stairs.{Stand, counting_word, counts, stand_by, Deed, Nothing, Sets, Turns, IsAtRest, IsOfStep, IsOver}
+use Rattle.pm_sequence_laws.specs.Stairs.{IsReadFor, MayRest, AsksWithinDeed, TurnsNothing, done_to, stands_at, AreOver, AreSound}
+use Rattle.pm_sequence_laws.specs.Stairs.{IsBetween}
 use Rattle.pm_sequence_laws.specs.Stairs.{IsSoundStep, IsStairs, RailStep, Rails, counts_at, StairsHoldInLives, WasBetween, climbs}
-use Rattle.pm_sequence_laws.specs.Stairs.{stair_of, stair_stand, stands, start_of}
+use Rattle.pm_sequence_laws.specs.Stairs.{stair_of, stair_stand, stands, stair_start_of}
 
 -- Words of an output as far as they count: what an output does by them is what it does by those that it holds.
 
@@ -136,7 +138,7 @@ needed-counts held wants register = ap (meant-by register (is_some (wants regist
 -- ---- What a deed makes of words ----
 
 pub goal-counts : (held : Held) (wants : Wants) → wants Operation ≡ None → (register : Reg) →
-    goal_of (counts held) wants register ≡ counted register (goal_of held wants register)
+    goal_of (counts held) wants register ≡ counting_word register (goal_of held wants register)
 goal-counts held wants none Operation = ap (λ (o : Option ℕ). unwrap_or o (command_of (held Operation))) none
     ∙ sym (ap (λ (o : Option ℕ). command_of (unwrap_or o (held Operation))) none)
 goal-counts held wants none VoutCommand = refl
@@ -223,7 +225,7 @@ of-asked start before (Some job) = inr refl
 
 module _ (below : Below) (config : Config) (passes : ℕ) (before : List Event) (event : Event)
     (lived : IsLived config passes (event ∷ before)) where
-  is-now : pending_after (start_settings config) (told config passes before event) (retold config passes before)
+  is-now : pending_after (start_settings config) (steps_of_event config passes before event) (retold config passes before)
       ≡ open_pending config passes (event ∷ before)
   unfolding retold
   is-now = (below.orders.orders config passes (event ∷ before) lived).job_is
@@ -231,9 +233,9 @@ module _ (below : Below) (config : Config) (passes : ℕ) (before : List Event) 
   was-then : pends (start_settings config) (retold config passes before) ≡ open_pending config passes before
   was-then = (below.orders.orders config passes before (below.lives.earlier config passes (event ∷ []) before lived)).job_is
 
-  told-is : (job : Option host.Job) → asked (now config passes before) event ≡ job → told config passes before event
+  told-is : (job : Option host.Job) → asked (now config passes before) event ≡ job → steps_of_event config passes before event
       ≡ option_map_or (λ j. accepts (pending_of j)) job (told_beside config passes before event)
-  unfolding told
+  unfolding steps_of_event
   told-is job is = ap (λ (j : Option host.Job). option_map_or (λ j. accepts (pending_of j)) j (told_beside config passes before event)) is
 
   pub goes-to : GoesTo config passes before event
@@ -378,7 +380,7 @@ itself x = eq-eqb x x refl
 module _ (config : Config) (passes : ℕ) (part : PartRegisters) (output : ℕ) (deed : Deed) where
   -- an order of another output's cell
   no-job : (later before : List Event) (other : ℕ) (r : Reg) → (other == output) ≡ false → (job : Option host.Job) →
-      MayStep config passes part output deed later before job → MayOrder (Out other r) no_word job
+      AsksWithinDeed config passes part output deed later before job → MayOrder (Out other r) no_word job
   no-job later before other r apart (Some (host.Order (Out o q) word)) may = λ same.
       let one : o ≡ other = cc in
       sym apart ∙ ap (λ (x : ℕ). x == output) (sym one ∙ may.0) ∙ itself output
@@ -403,7 +405,8 @@ module _ (config : Config) (passes : ℕ) (part : PartRegisters) (output : ℕ) 
 
 module _ (config : Config) (passes : ℕ) (part : PartRegisters) (output : ℕ) (wants : Wants) where
   -- a step of settings follows its plan
-  follow-job : (later before : List Event) (job : Option host.Job) → MayStep config passes part output (Sets wants) later before job →
+  follow-job : (later before : List Event) (job : Option host.Job) →
+      AsksWithinDeed config passes part output (Sets wants) later before job →
       MayAsk config passes part output wants later before job
   follow-job later before (Some (host.Order (Out o q) word)) may = λ same. may.1
   follow-job later before (Some (host.Order Protect word)) may = tt
@@ -419,7 +422,7 @@ module _ (config : Config) (passes : ℕ) (part : PartRegisters) (output : ℕ) 
 module _ (config : Config) (passes : ℕ) (part : PartRegisters) (output byte : ℕ) where
   -- a step that turns an output orders no other register of it, and of OPERATION its byte
   turn-job : (later before : List Event) (r : Reg) (allowed : ℕ → Bool) → (Operation ≡ r → allowed byte ≡ true) → (job : Option host.Job) →
-      MayStep config passes part output (Turns byte) later before job → MayOrder (Out output r) allowed job
+      AsksWithinDeed config passes part output (Turns byte) later before job → MayOrder (Out output r) allowed job
   turn-job later before r allowed lets (Some (host.Order (Out o q) word)) may = λ same.
       let one : q ≡ r = cc in
       ap allowed may.1.1 ∙ lets (sym may.1.0 ∙ one)
@@ -476,14 +479,14 @@ rest-still config passes (event ∷ later) before rest = (rest.0, rest-still con
 
 -- a cell that was read since the converter's last restart still is after events at which it doesn't restart
 pub since-still : (config : Config) (passes : ℕ) (cell : Cell) (newer before : List Event) →
-    (has_read config passes cell before ≡ true → restarted_since config passes cell before ≡ false) → AreStill newer →
-    has_read config passes cell (newer ++ before) ≡ true → restarted_since config passes cell (newer ++ before) ≡ false
-unfolding restarted_since has_read
+    (host_has_read config passes cell before ≡ true → restarted_since config passes cell before ≡ false) → AreStill newer →
+    host_has_read config passes cell (newer ++ before) ≡ true → restarted_since config passes cell (newer ++ before) ≡ false
+unfolding restarted_since host_has_read
 since-still config passes cell [] before since still = since
 since-still config passes cell (event ∷ newer) before since still =
     go (reads_cell config passes cell (newer ++ before) event) (restarts_converter event)
     (restarted_since config passes cell (newer ++ before)) (restarts_host event)
-    (has_read config passes cell (newer ++ before)) still.0
+    (host_has_read config passes cell (newer ++ before)) still.0
     (since-still config passes cell newer before since still.1)
   where
     go : (reads restarts since host read : Bool) → restarts ≡ false → (read ≡ true → since ≡ false) →
@@ -495,9 +498,9 @@ since-still config passes cell (event ∷ newer) before since still =
 
 pub since-later : (config : Config) (passes : ℕ) (part : PartRegisters) (output : ℕ) (deed : Deed) (cell : Cell)
     (newer before : List Event) →
-    (has_read config passes cell before ≡ true → restarted_since config passes cell before ≡ false) →
+    (host_has_read config passes cell before ≡ true → restarted_since config passes cell before ≡ false) →
     IsOfStep config passes part output deed newer before →
-    has_read config passes cell (newer ++ before) ≡ true → restarted_since config passes cell (newer ++ before) ≡ false
+    host_has_read config passes cell (newer ++ before) ≡ true → restarted_since config passes cell (newer ++ before) ≡ false
 since-later config passes part output deed cell newer before since of =
     since-still config passes cell newer before since (step-still config passes part output deed newer before of)
 
@@ -587,7 +590,7 @@ pub record Segment (config : Config) (passes : ℕ) (part : PartRegisters) (outp
       ≡ done_to (counts_at config passes before output) deed register
   pub missing : HoldsMissing part config (now config passes (newer ++ (later ++ before))).device.words output
   pub back : (register : Reg) → done_to (counts_at config passes (newer ++ (later ++ before)) output)
-      (back_of (counts_at config passes before output) deed) register ≡ counts_at config passes before output register
+      (undoing_deed (counts_at config passes before output) deed) register ≡ counts_at config passes before output register
 
 module _ (laws : SegmentsBelow) (config : Config) (passes : ℕ) (part : PartRegisters) (output : ℕ) (wants : Wants)
     (newer later before : List Event) (spelled : IsSpelled config) (lived : IsLived config passes (newer ++ (later ++ before)))
@@ -636,7 +639,7 @@ module _ (laws : SegmentsBelow) (config : Config) (passes : ℕ) (part : PartReg
   two on on' volts volts' e f = cc
 
   same-counts : (r : Reg) → goal_of (counts_at config passes events output) wants r ≡ goal_of (counts_at config passes before output) wants r
-  same-counts r = goal-counts (held_at config passes events output) wants none r ∙ ap (counted r) (same-goal r)
+  same-counts r = goal-counts (held_at config passes events output) wants none r ∙ ap (counting_word r) (same-goal r)
       ∙ sym (goal-counts (held_at config passes before output) wants none r)
 
   -- what the output does is the same by the words that are held and by what counts of them
@@ -652,7 +655,8 @@ module _ (laws : SegmentsBelow) (config : Config) (passes : ℕ) (part : PartReg
       | inl e ↦ inl (two _ _ _ _ (on-now ∙ sym on-later) e)
       | inr e ↦ inr (two _ _ _ _ (on-now ∙ sym on-goal) e ∙ stand-goal)
     ];
-    over = λ over r. ap (counted r) (goal-had (wants r) (held_at config passes before output r) (held_at config passes events output r)
+    over =
+        λ over r. ap (counting_word r) (goal-had (wants r) (held_at config passes before output r) (held_at config passes events output r)
         (λ word wanted. (keeps.come_true part output over.0 wants r word here none
         (keeps.read part output wants (newer ++ later) before is here none idle read lacks plan)
         (keeps.missing part output wants (newer ++ later) before is here none idle read lacks plan) over.1 wanted).1)
@@ -721,7 +725,7 @@ module _ (laws : SegmentsBelow) (config : Config) (passes : ℕ) (part : PartReg
         listed any = let bad = sym (ap (λ (p : Possible). known_word cell p) any) ∙ known in cc
 
         since : restarted_since config passes cell events' ≡ false
-        since = subst (λ (es : List Event). has_read config passes cell es ≡ true → restarted_since config passes cell es ≡ false)
+        since = subst (λ (es : List Event). host_has_read config passes cell es ≡ true → restarted_since config passes cell es ≡ false)
             (append_assoc newer later before)
             (since-later config passes part output (Turns byte) cell (newer ++ later) before read of)
             ((laws.possible.held config passes events' lived).found cell here listed)
@@ -742,11 +746,11 @@ module _ (laws : SegmentsBelow) (config : Config) (passes : ℕ) (part : PartReg
           ∙ ap (λ (h : Held). stand_by (value_for config output) h) (fun_ext (put-counts (held_at config passes before output) byte)))
     ];
     over = λ over. turned (counts_at config passes before output) (counts_at config passes events' output) (command_of byte)
-        (possible-byte over) (λ r apart. ap (counted r) (others r apart));
+        (possible-byte over) (λ r apart. ap (counting_word r) (others r apart));
     missing = λ r word is. others r (λ e. no-operation part config output word (subst (λ (x : Reg).
         missing_word part (shape_for config output) x ≡ Some word) e is)) ∙ lacks r word is;
     back = turned-back (counts_at config passes before output) (counts_at config passes events' output)
-        (itself-commanded (held_at config passes before output Operation)) (λ r apart. ap (counted r) (others r apart));
+        (itself-commanded (held_at config passes before output Operation)) (λ r apart. ap (counting_word r) (others r apart));
   }
 
 -- a step that orders nothing: each register of its output keeps its word
@@ -756,7 +760,7 @@ module _ (laws : SegmentsBelow) (config : Config) (passes : ℕ) (part : PartReg
     (lacks : HoldsMissing part config (now config passes before).device.words output)
     (of : IsOfStep config passes part output Nothing (newer ++ later) before) where
   nothing-job : (later' before' : List Event) (r : Reg) (job : Option host.Job) →
-      MayStep config passes part output Nothing later' before' job → MayOrder (Out output r) no_word job
+      AsksWithinDeed config passes part output Nothing later' before' job → MayOrder (Out output r) no_word job
   nothing-job later' before' r (Some (host.Order (Out o q) word)) may = absurd may.1
   nothing-job later' before' r (Some (host.Order Protect word)) may = λ same. cc
   nothing-job later' before' r (Some (host.Send RestoreUserAll)) may = may
@@ -783,9 +787,9 @@ module _ (laws : SegmentsBelow) (config : Config) (passes : ℕ) (part : PartReg
     goes = inr (stands-is config passes (newer ++ (later ++ before)) output
         ∙ ap (λ (h : Held). stand_by (value_for config output) h) (fun_ext kept-all)
         ∙ sym (stand-counts (value_for config output) (held_at config passes before output)));
-    over = λ over r. ap (counted r) (kept-all r);
+    over = λ over r. ap (counting_word r) (kept-all r);
     missing = λ r word is. kept-all r ∙ lacks r word is;
-    back = λ r. ap (counted r) (kept-all r);
+    back = λ r. ap (counting_word r) (kept-all r);
   }
 
 -- each deed
@@ -830,15 +834,15 @@ split (x ∷ xs) ys (z ∷ zs) ws e =
 module _ (laws : SegmentsBelow) (config : Config) (passes : ℕ) (part : PartRegisters) (before : List Event) (spelled : IsSpelled config)
   where
     abbrev start : Rails
-    start = start_of config passes before
+    start = stair_start_of config passes before
 
     -- the outputs at a moment at which the last of the steps is over
     pub record At (done : List RailStep) (events : List Event) : Type 0 where
       pub idle : is_busy (now config passes events).host ≡ false
       pub words : (output : ℕ) (register : Reg) → output < config.count →
           counts_at config passes events output register ≡ stair_of start done output register
-      pub fresh : (cell : Cell) → (has_read config passes cell before ≡ true → restarted_since config passes cell before ≡ false) →
-          has_read config passes cell events ≡ true → restarted_since config passes cell events ≡ false
+      pub fresh : (cell : Cell) → (host_has_read config passes cell before ≡ true → restarted_since config passes cell before ≡ false) →
+          host_has_read config passes cell events ≡ true → restarted_since config passes cell events ≡ false
       pub missing : (output : ℕ) → output < config.count → HoldsMissing part config (now config passes before).device.words output →
           HoldsMissing part config (now config passes events).device.words output
 
@@ -908,7 +912,7 @@ module _ (laws : SegmentsBelow) (config : Config) (passes : ℕ) (part : PartReg
             (part-of.over over register
             ∙ ap (λ (h : Held). done_to h step.deed register) (held-is at step.output sound.here))
             ∙ sym (ap (λ (b : Bool). cond b (done_to (stair_of start done output) step.deed) (stair_of start done output) register) e)
-        word-at output register here false e = ap (counted register) (still at step newer lived of output register here e)
+        word-at output register here false e = ap (counting_word register) (still at step newer lived of output register here e)
             ∙ at.words output register here
             ∙ sym (ap (λ (b : Bool). cond b (done_to (stair_of start done output) step.deed) (stair_of start done output) register) e)
 
@@ -923,7 +927,7 @@ module _ (laws : SegmentsBelow) (config : Config) (passes : ℕ) (part : PartReg
         IsLived config passes (later ++ before) → is_busy (now config passes (later ++ before)).host ≡ false → At [] (later ++ before)
     at-start later idle rest lived over = record {
       idle = over;
-      words = λ output register here. ap (counted register) (rest-words later idle rest lived output register here);
+      words = λ output register here. ap (counting_word register) (rest-words later idle rest lived output register here);
       fresh = λ cell since. since-still config passes cell later before since (rest-still config passes later before rest);
       missing = λ output here lacks register word is. rest-words later idle rest lived output register here ∙ lacks register word is;
     }
@@ -938,8 +942,8 @@ module _ (laws : SegmentsBelow) (config : Config) (passes : ℕ) (part : PartReg
     -- at any moment, what was read and what the part lacks
     pub fresh-of : {steps : List RailStep} {events : List Event} → IsStairs config passes part before steps events →
         AreSound config passes part before steps → IsLived config passes events → (cell : Cell) →
-        (has_read config passes cell before ≡ true → restarted_since config passes cell before ≡ false) →
-        has_read config passes cell events ≡ true → restarted_since config passes cell events ≡ false
+        (host_has_read config passes cell before ≡ true → restarted_since config passes cell before ≡ false) →
+        host_has_read config passes cell events ≡ true → restarted_since config passes cell events ≡ false
     fresh-of (stands later idle rest) sound lived cell since =
         since-still config passes cell later before since (rest-still config passes later before rest)
     fresh-of (climbs step done newer older c was of) sound lived cell since =
@@ -971,7 +975,7 @@ module _ (laws : SegmentsBelow) (config : Config) (passes : ℕ) (part : PartReg
         IsBetween config passes before (step ∷ done) (newer ++ older)
     between-step {done = done} {older = older} at step sound newer lived of = (
       λ output register here apart.
-          ap (counted register) (still at step newer lived of output register here apart) ∙ at.words output register here,
+          ap (counting_word register) (still at step newer lived of output register here apart) ∙ at.words output register here,
       own,
     )
       where
@@ -1101,7 +1105,7 @@ undone-byte old byte same MarginLow = refl
 undone-byte old byte same VoutMin = refl
 
 undone : (old : Held) (deed : Deed) → command_of (old Operation) ≡ old Operation → (r : Reg) →
-    done_to (done_to old deed) (back_of old deed) r ≡ old r
+    done_to (done_to old deed) (undoing_deed old deed) r ≡ old r
 undone old (Sets wants) same r = undone-one (wants r) (old r)
 undone old (Turns byte) same r = undone-byte old (command_of byte) same r
 undone old Nothing same r = refl
@@ -1116,13 +1120,13 @@ commanded-deed held Nothing none same = same
 
 stair-commanded : (config : Config) (passes : ℕ) (part : PartRegisters) (before : List Event) (done : List RailStep) →
     AreSound config passes part before done → (output : ℕ) →
-    command_of (stair_of (start_of config passes before) done output Operation) ≡ stair_of (start_of config passes before) done output Operation
+    command_of (stair_of (stair_start_of config passes before) done output Operation) ≡ stair_of (stair_start_of config passes before) done output Operation
 stair-commanded config passes part before [] sound output = itself-commanded (held_at config passes before output Operation)
 stair-commanded config passes part before (step ∷ done) sound output =
     go (output == step.output) (stair-commanded config passes part before done sound.1 output)
   where
     old : Held
-    old = stair_of (start_of config passes before) done output
+    old = stair_of (stair_start_of config passes before) done output
 
     go : (b : Bool) → command_of (old Operation) ≡ old Operation →
         command_of (cond b (done_to old step.deed) old Operation) ≡ cond b (done_to old step.deed) old Operation
@@ -1130,7 +1134,7 @@ stair-commanded config passes part before (step ∷ done) sound output =
     go false earlier = earlier
 
 -- what undoes a deed turns nothing where it doesn't
-back-still : (old : Held) (deed : Deed) → TurnsNothing deed → TurnsNothing (back_of old deed)
+back-still : (old : Held) (deed : Deed) → TurnsNothing deed → TurnsNothing (undoing_deed old deed)
 back-still old (Sets wants) none = ap (λ (o : Option ℕ). option_map (λ (word : ℕ). old Operation) o) none
 back-still old (Turns byte) none = tt
 back-still old Nothing none = tt
@@ -1157,7 +1161,7 @@ module _ (count : ℕ) (start : Rails) where
   record IsHalf (step : RailStep) (done : List RailStep) (rails : Rails) : Type 0 where
     others : (output : ℕ) (register : Reg) → output < count → (output == step.output) ≡ false →
         rails output register ≡ stair_of start done output register
-    own : (register : Reg) → done_to (rails step.output) (back_of (stair_of start done step.output) step.deed) register
+    own : (register : Reg) → done_to (rails step.output) (undoing_deed (stair_of start done step.output) step.deed) register
         ≡ stair_of start done step.output register
 
   abbrev IsWhole : List RailStep → Rails → Type 0
@@ -1171,7 +1175,7 @@ module _ (count : ℕ) (start : Rails) where
         ∙ ap (λ (b : Bool). cond b (done_to (stair_of start done output) step.deed) (stair_of start done output) register) apart;
     own = λ register.
         let old = stair_of start done step.output in
-        ap (λ (h : Held). done_to h (back_of old step.deed) register)
+        ap (λ (h : Held). done_to h (undoing_deed old step.deed) register)
         (fun_ext (λ (r : Reg). whole step.output r here) ∙ ap (λ (b : Bool). cond b (done_to old step.deed) old) (itself step.output))
         ∙ undone old step.deed same register;
   }
@@ -1184,47 +1188,47 @@ module _ (count : ℕ) (start : Rails) where
     rails = stair_of from downs
 
     deed : Deed
-    deed = back_of (stair_of start done step.output) step.deed
+    deed = undoing_deed (stair_of start done step.output) step.deed
 
     go : (b : Bool) → (output == step.output) ≡ b →
-        cond b (done_to (stair_of from downs output) (back_of (stair_of start done step.output) step.deed)) (stair_of from downs output) register
+        cond b (done_to (stair_of from downs output) (undoing_deed (stair_of start done step.output) step.deed)) (stair_of from downs output) register
         ≡ stair_of start done output register
-    go true e = subst (λ (o : ℕ). done_to (stair_of from downs o) (back_of (stair_of start done step.output) step.deed) register
+    go true e = subst (λ (o : ℕ). done_to (stair_of from downs o) (undoing_deed (stair_of start done step.output) step.deed) register
         ≡ stair_of start done o register) (sym (eqb-true output step.output e)) (half.own register)
     go false e = half.others output register here e
 
 module _ (laws : SegmentsBelow) (config : Config) (passes : ℕ) (part : PartRegisters) (before : List Event) (spelled : IsSpelled config)
   where
     abbrev back_start : Rails
-    back_start = start_of config passes before
+    back_start = stair_start_of config passes before
 
     -- the rails wherever steps are stopped
     half-at : {done : List RailStep} {older : List Event} → At laws config passes part before spelled done older → (step : RailStep) →
         IsSoundStep config passes part before step (stair_of back_start done step.output) → (newer : List Event) →
         IsLived config passes (newer ++ older) → IsOfStep config passes part step.output step.deed newer older →
-        IsHalf config.count back_start step done (start_of config passes (newer ++ older))
+        IsHalf config.count back_start step done (stair_start_of config passes (newer ++ older))
     half-at {older = older} at step sound newer lived of = record {
       others = λ output register here apart.
-          ap (counted register) (still laws config passes part before spelled at step newer lived of output register here apart)
+          ap (counting_word register) (still laws config passes part before spelled at step newer lived of output register here apart)
           ∙ at.words output register here;
-      own = subst (λ (h : Held). (register : Reg) → done_to (counts_at config passes (newer ++ older) step.output) (back_of h step.deed) register
+      own = subst (λ (h : Held). (register : Reg) → done_to (counts_at config passes (newer ++ older) step.output) (undoing_deed h step.deed) register
           ≡ h register) (held-is laws config passes part before spelled at step.output sound.here)
           (segment-at laws config passes part before spelled at step sound [] newer lived of).back;
     }
 
     half-of : {step : RailStep} {done : List RailStep} {stop : List Event} → IsStairs config passes part before (step ∷ done) stop →
         AreSound config passes part before (step ∷ done) → IsLived config passes stop →
-        IsHalf config.count back_start step done (start_of config passes stop)
+        IsHalf config.count back_start step done (stair_start_of config passes stop)
     half-of (climbs step done newer older c was of) sound lived =
         half-at (at-of laws config passes part before spelled c sound.1 (laws.lives.earlier config passes newer older lived) was)
         step sound.0 newer lived of
 
     -- what is read for the way back
     read-back : (stop : List Event) (output : ℕ) (deed : Deed) (old held : Held) → TurnsNothing deed →
-        (done_to held (back_of old deed) Operation ≡ old Operation) →
-        ((cell : Cell) → (has_read config passes cell before ≡ true → restarted_since config passes cell before ≡ false) →
-        has_read config passes cell stop ≡ true → restarted_since config passes cell stop ≡ false) →
-        IsReadFor config passes output deed old before → IsReadFor config passes output (back_of old deed) held stop
+        (done_to held (undoing_deed old deed) Operation ≡ old Operation) →
+        ((cell : Cell) → (host_has_read config passes cell before ≡ true → restarted_since config passes cell before ≡ false) →
+        host_has_read config passes cell stop ≡ true → restarted_since config passes cell stop ≡ false) →
+        IsReadFor config passes output deed old before → IsReadFor config passes output (undoing_deed old deed) held stop
     read-back stop output (Sets wants) old held none own fresh read = λ register needed.
         let same = sym (ap (λ (o : Option ℕ). unwrap_or (option_map (λ (word : ℕ). old Operation) o) (held Operation)) none) ∙ own in
         fresh (Out output register) (read register (sym (needed-back old held wants same register) ∙ needed))
@@ -1232,12 +1236,12 @@ module _ (laws : SegmentsBelow) (config : Config) (passes : ℕ) (part : PartReg
     read-back stop output Nothing old held none own fresh read = tt
 
     module _ (stop : List Event) (fresh : (cell : Cell) →
-        (has_read config passes cell before ≡ true → restarted_since config passes cell before ≡ false) →
-        has_read config passes cell stop ≡ true → restarted_since config passes cell stop ≡ false)
+        (host_has_read config passes cell before ≡ true → restarted_since config passes cell before ≡ false) →
+        host_has_read config passes cell stop ≡ true → restarted_since config passes cell stop ≡ false)
         (missing : (output : ℕ) → output < config.count → HoldsMissing part config (now config passes before).device.words output →
         HoldsMissing part config (now config passes stop).device.words output) where
       abbrev from : Rails
-      from = start_of config passes stop
+      from = stair_start_of config passes stop
 
       sound-back : (step : RailStep) (done downs : List RailStep) →
           IsSoundStep config passes part before step (stair_of back_start done step.output) →
@@ -1318,9 +1322,9 @@ sound-counted config passes part before (step ∷ steps) sound = (
   record {
     here = sound.0.here;
     still = still-counted step.deed sound.0.still;
-    read = read-counted config passes step.output step.deed (stair_of (start_of config passes before) steps step.output) before
+    read = read-counted config passes step.output step.deed (stair_of (stair_start_of config passes before) steps step.output) before
         (subst (λ (h : Held). IsReadFor config passes step.output (counted_deed step.deed) h before)
-        (stair-counted (start_of config passes before) steps step.output) sound.0.read);
+        (stair-counted (stair_start_of config passes before) steps step.output) sound.0.read);
     missing = sound.0.missing;
   },
   sound-counted config passes part before steps sound.1,
@@ -1339,8 +1343,8 @@ stairs-go-back laws hold = record {
       let all : AreSound config passes part stop downs = sound-counted config passes part stop downs
       (subst (λ (l : List RailStep). AreSound config passes part stop l) (sym are) way.sound) in
       (hold config passes events spelled lived).over part downs stop all d over output register here
-      ∙ sym (ap (λ (h : Held). h register) (stair-counted (start_of config passes stop) downs output))
-      ∙ ap (λ (l : List RailStep). stair_of (start_of config passes stop) l output register) are
+      ∙ sym (ap (λ (h : Held). h register) (stair-counted (stair_start_of config passes stop) downs output))
+      ∙ ap (λ (l : List RailStep). stair_of (stair_start_of config passes stop) l output register) are
       ∙ way.words output register here;
 }
 
@@ -1349,7 +1353,7 @@ stairs-go-back laws hold = record {
 -- an order that is next by what is known now is one of the step's
 module _ (config : Config) (passes : ℕ) (part : PartRegisters) where
   next-job : (output : ℕ) (deed : Deed) (later before : List Event) (job : Option host.Job) →
-      MayNext config passes part output deed (later ++ before) job → MayStep config passes part output deed later before job
+      MayNext config passes part output deed (later ++ before) job → AsksWithinDeed config passes part output deed later before job
   next-job output (Sets wants) later before (Some (host.Order (Out o q) word)) may = (may.0, inl may.1)
   next-job output (Turns byte) later before (Some (host.Order (Out o q) word)) may = may
   next-job output Nothing later before (Some (host.Order (Out o q) word)) may = may
@@ -1379,7 +1383,8 @@ module _ (laws : SegmentsBelow) (config : Config) (passes : ℕ) (part : PartReg
 
   -- a cell that is known holds what is known
   known-held-at : (register : Reg) →
-      (has_read config passes (Out output register) events ≡ true → restarted_since config passes (Out output register) events ≡ false) →
+      (host_has_read config passes (Out output register) events ≡ true → restarted_since config passes (Out output register) events
+      ≡ false) →
       is_none (known_word (Out output register) (possible_at s (Out output register))) ≡ false →
       known_word (Out output register) (possible_at s (Out output register)) ≡ Some (held_at config passes events output register)
   known-held-at register since some =
@@ -1396,7 +1401,8 @@ module _ (laws : SegmentsBelow) (config : Config) (passes : ℕ) (part : PartReg
 
   -- the only word that a cell may hold is the one that it holds
   sole-held-at : (register : Reg) (word : ℕ) →
-      (has_read config passes (Out output register) events ≡ true → restarted_since config passes (Out output register) events ≡ false) →
+      (host_has_read config passes (Out output register) events ≡ true → restarted_since config passes (Out output register) events
+      ≡ false) →
       sole (possible_at s (Out output register)) ≡ Some word → word ≡ held_at config passes events output register
   sole-held-at register word since is = sym (ap (λ (o : Option ℕ). unwrap_or o 0) is)
       ∙ only-possible (held_at config passes events output register) (possible_at s cell)
@@ -1441,7 +1447,7 @@ module _ (laws : SegmentsBelow) (config : Config) (passes : ℕ) (part : PartReg
   known-deed : (deed : Deed) (before : List Event) (done : List RailStep) → TurnsNothing deed →
       IsReadFor config passes output deed (held_at config passes events output) events →
       ((register : Reg) → counts_at config passes events output register
-      ≡ stair_of (start_of config passes before) done output register) →
+      ≡ stair_of (stair_start_of config passes before) done output register) →
       IsKnownFrom config passes part before done output deed events
   known-deed (Sets wants) before done none read words = λ limits order register word is wanted.
       known-plan limits order wants register word read is wanted

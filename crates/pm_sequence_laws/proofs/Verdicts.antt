@@ -25,7 +25,7 @@ use Rattle.pm_device.specs.declared.config.Config.{Config}
 use Rattle.pm_device.specs.Held.{Held}
 use Rattle.pm_device.specs.Laws.{AnswersWith, ReadsAreAnswered, RegistersSayWhatCallsSay}
 use Rattle.pm_device.specs.Reply.{register_bytes, register_word, reply_of}
-use Rattle.pm_device.specs.Status.{cut_at, is_on, marked, status_cml}
+use Rattle.pm_device.specs.Status.{cut_at, is_output_on, bit_if_set, status_cml_of}
 use Rattle.pm_rail.specs.declared.power.Power.{Power}
 use Rattle.pm_rail.specs.declared.power.Power.TheVariants as power
 use Rattle.pm_delivery.specs.declared.delivery.Delivery.{Delivery}
@@ -42,9 +42,9 @@ use Rattle.pm_delivery.specs.declared.verdict.Verdict.{Verdict}
 use Rattle.pm_delivery.specs.declared.verdict.Verdict.TheVariants.{CommandedOff, Delivers, IsOff, NoPowerGood, NotKnownOn, NotYet, PowerGoodAlone, StillOn, WentOff}
 use Rattle.pm_delivery.specs.Deliveries.{has_status, has_vout, is_off, lacks_power_good, look_off, looks_on, new_fault}
 use Rattle.pm_delivery.specs.Due.{due_of}
-use Rattle.pm_delivery.specs.Ended.{once_over, verdict_at, verdict_of}
+use Rattle.pm_delivery.specs.Ended.{once_over, verdict_at, delivery_verdict_of}
 use Rattle.pm_delivery.specs.Heard.{asked_more, heard_after, is_good}
-use Rattle.pm_delivery.specs.Questions.{answer_by, no_answer, word_in}
+use Rattle.pm_delivery.specs.Questions.{answer_by, no_answer, word_in_payload}
 use Rattle.pm_delivery.specs.StatusBits.{has_bit, off, power_good_not}
 use Rattle.pm_delivery.specs.Verdict.{not_known, unanswered, verdict_alone, verdict_by, verdict_known, verdict_off, verdict_on, verdict_read, verdict_sound, verdict_status, verdict_with, verdict_without}
 use Rattle.pm_world.specs.Legal.{is_heard_whole, is_legal_return}
@@ -108,16 +108,16 @@ module _ (betrayed : BetrayalIsRefused) (damaged : DamageIsRefused) (reads : Rea
       (grind (arith, nat_tests, here))
 
   -- the word that stands in it
-  own-word : (bytes : List ℕ) → bytes ≡ own-answer.0 → word_in (block_payload bytes) ≡ register_word device output code
+  own-word : (bytes : List ℕ) → bytes ≡ own-answer.0 → word_in_payload (block_payload bytes) ≡ register_word device output code
   own-word bytes is =
       let word = register_word device output code in
       let payload = ap (λ n. take n (word % 256 ∷ word / 256 ∷ [])) reading.two in
       let spelled = is ∙ own-answer.2.spelled ∙ ap (λ p. with_pec request (read_address device.config.addr ∷ length p ∷ p)) payload in
-      ap (λ b. word_in (block_payload b)) spelled ∙ mod-add-div' word 256
+      ap (λ b. word_in_payload (block_payload b)) spelled ∙ mod-add-div' word 256
 
   -- a whole answer that came back is the part's
   is-own : (heard bytes : List ℕ) (ending : Ending) (word : ℕ) → CameBack device request 2 heard ending bytes →
-      paged_fault device.config.addr output code (Some 2) bytes ≡ None → word_in (block_payload bytes) ≡ word →
+      paged_fault device.config.addr output code (Some 2) bytes ≡ None → word_in_payload (block_payload bytes) ≡ word →
       IsOwn device output code word heard ending
   unfolding is_legal_return
   is-own heard bytes ending word came none said =
@@ -134,7 +134,7 @@ module _ (betrayed : BetrayalIsRefused) (damaged : DamageIsRefused) (reads : Rea
       short-is : (bytes : List ℕ) → nat_lt (length bytes) 5 ≡ true → length bytes < whole_answer (PagePlusRead output code)
       short-is bytes short = subst (λ n. length bytes < 3 + n) (sym reading.two) (grind (arith, nat_tests, short))
 
-      whole-is : (heard bytes : List ℕ) (ending : Ending) (word : ℕ) → word_in (block_payload bytes) ≡ word →
+      whole-is : (heard bytes : List ℕ) (ending : Ending) (word : ℕ) → word_in_payload (block_payload bytes) ≡ word →
           (is_heard_whole request heard ending ≡ true) × (bytes_eq bytes (legal.answer_in (reply_of device heard ending)) ≡ true) →
           IsOwn device output code word heard ending
       whole-is heard bytes Stop word said both = cc
@@ -188,7 +188,7 @@ module _ (betrayed : BetrayalIsRefused) (damaged : DamageIsRefused) (reads : Rea
       let d = (beside held passes (later ++ before)).device in
       let made = made-so held passes (later ++ before) in
       let own = is-own betrayed damaged reads d output code reading (subst (λ (c : Config). output < c.count) (sym made) here) heard bytes ending
-      (word_in (block_payload bytes))
+      (word_in_payload (block_payload bytes))
       (subst (λ (c : Config). CameBack d (paged_request c.addr output code) 2 heard ending bytes) (sym made) came)
       (subst (λ (c : Config). paged_fault c.addr output code (Some 2) bytes ≡ None) (sym made) is) refl in
       record {
@@ -227,7 +227,8 @@ module _ (betrayed : BetrayalIsRefused) (damaged : DamageIsRefused) (reads : Rea
 
 -- bit 6 and bit 11 of STATUS_WORD follow OPERATION
 off-bit : (on cut cml : Bool) →
-    has_bit (marked 0x40 (not on) + marked 0x02 cml + marked 0x01 cut + marked 0x8000 cut + marked 0x0800 (not on)) off ≡ not on
+    has_bit (bit_if_set 0x40 (not on) + bit_if_set 0x02 cml + bit_if_set 0x01 cut + bit_if_set 0x8000 cut + bit_if_set 0x0800 (not on)) off
+    ≡ not on
 off-bit true true true = refl
 off-bit true true false = refl
 off-bit true false true = refl
@@ -302,7 +303,7 @@ off-not d false gone is = cc
 off-not d true true is = cc
 off-not d true false is = cc
 
-delivers-on : (d : Delivery) (most : ℕ) (power : Power) (reading : Reading) → verdict_of d most power reading ≡ Delivers → IsOn d
+delivers-on : (d : Delivery) (most : ℕ) (power : Power) (reading : Reading) → delivery_verdict_of d most power reading ≡ Delivers → IsOn d
 delivers-on d most power reading is = go (looks_on d) (d.look == look_off) is where
   go : (after off : Bool) → cond after (verdict_at power (due_of d most power reading) (verdict_on d reading))
       (cond off (once_over (due_of d most power reading) (verdict_off d)) NotYet) ≡ Delivers → IsOn d
@@ -358,7 +359,8 @@ off-is d is = go (is_good d.status_word) (is_off d) refl is where
   go true true o is = o
   go true false o is = cc
 
-went-off : (d : Delivery) (most : ℕ) (power : Power) (reading : Reading) → verdict_of d most power reading ≡ WentOff → is_off d ≡ true
+went-off : (d : Delivery) (most : ℕ) (power : Power) (reading : Reading) → delivery_verdict_of d most power reading ≡ WentOff → is_off d
+    ≡ true
 went-off d most power reading is = go (looks_on d) (d.look == look_off) is where
   go : (after off : Bool) → cond after (verdict_at power (due_of d most power reading) (verdict_on d reading))
       (cond off (once_over (due_of d most power reading) (verdict_off d)) NotYet) ≡ WentOff → is_off d ≡ true
@@ -373,12 +375,12 @@ module _ (says : RegistersSayWhatCallsSay) {held : Held} {passes output : ℕ} {
   abbrev then : Held
   then = (beside held passes (was.older ++ before)).device
 
-  off-then : has_bit (register_word then output command.status_word) off ≡ not (is_on then output)
+  off-then : has_bit (register_word then output command.status_word) off ≡ not (is_output_on then output)
   off-then = ap (λ w. has_bit w off) (says.status_word then output)
-      ∙ off-bit (is_on then output) (cut_at then.cut output) (not (status_cml then == 0))
+      ∙ off-bit (is_output_on then output) (cut_at then.cut output) (not (status_cml_of then == 0))
 
-  on-is : (on : Bool) → has_bit word off ≡ not on → is_on then output ≡ on
-  on-is on is = go (is_on then output) on (sym off-then ∙ (ap (λ w. has_bit w off) was.word_is ∙ is)) where
+  on-is : (on : Bool) → has_bit word off ≡ not on → is_output_on then output ≡ on
+  on-is on is = go (is_output_on then output) on (sym off-then ∙ (ap (λ w. has_bit w off) was.word_is ∙ is)) where
     go : (x y : Bool) → not x ≡ not y → x ≡ y
     go true true e = refl
     go false false e = refl

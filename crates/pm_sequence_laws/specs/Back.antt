@@ -9,18 +9,18 @@ use Rattle.pm_world.specs.declared.event.Event.{Event}
 use Rattle.pm_world.specs.Honest.{IsSpelled}
 use Rattle.pm_world.specs.Lived.{IsLived}
 use Rattle.pm_stairs.specs.Command.{command_of}
-use Rattle.pm_sequence_laws.specs.Stairs.{AreOver, AreSound, Deed, IsStairs, Nothing, RailStep, Rails, Sets, Turns, counts_at, stair_of, start_of}
+use Rattle.pm_sequence_laws.specs.Stairs.{AreOver, AreSound, Deed, IsStairs, Nothing, RailStep, Rails, Sets, Turns, counts_at, stair_of, stair_start_of}
 
 -- what undoes a deed, by the words of before: each register of which a word was wanted gets its old one
-abbrev pub back_of : Held → Deed → Deed
-back_of held (Sets wants) = Sets (λ register. option_map (λ word. held register) (wants register))
-back_of held (Turns byte) = Turns (held Operation)
-back_of held Nothing = Nothing
+abbrev pub undoing_deed : Held → Deed → Deed
+undoing_deed held (Sets wants) = Sets (λ register. option_map (λ word. held register) (wants register))
+undoing_deed held (Turns byte) = Turns (held Operation)
+undoing_deed held Nothing = Nothing
 
 -- the step that undoes a step, which came after those that are done
 abbrev pub back_step : Rails → List RailStep → RailStep → RailStep
 back_step start done step =
-    record { output = step.output; deed = back_of (stair_of start done step.output) step.deed }
+    record { output = step.output; deed = undoing_deed (stair_of start done step.output) step.deed }
 
 -- a step, of whose byte only the command counts
 abbrev pub counted_deed : Deed → Deed
@@ -45,9 +45,9 @@ downs_of start (step ∷ newest) left downs = downs_of start newest left (back_s
 pub record GoesBack (config : Config) (passes : ℕ) (part : PartRegisters) (before stop : List Event) (step : RailStep)
     (newest left : List RailStep) : Type 0 where
   pub words : (output : ℕ) (register : Reg) → output < config.count →
-      stair_of (start_of config passes stop) (downs_of (start_of config passes before) (step ∷ newest) left []) output register
-      ≡ stair_of (start_of config passes before) left output register
-  pub sound : AreSound config passes part stop (downs_of (start_of config passes before) (step ∷ newest) left [])
+      stair_of (stair_start_of config passes stop) (downs_of (stair_start_of config passes before) (step ∷ newest) left []) output register
+      ≡ stair_of (stair_start_of config passes before) left output register
+  pub sound : AreSound config passes part stop (downs_of (stair_start_of config passes before) (step ∷ newest) left [])
 
 pub record StairsGoBack : Type 0 where
   pub there : (config : Config) (passes : ℕ) (part : PartRegisters) (before stop : List Event) (step : RailStep)
@@ -59,7 +59,7 @@ pub record StairsGoBack : Type 0 where
       (newest downs : List RailStep) →
       IsSpelled config → IsLived config passes events →
       AreSound config passes part before (step ∷ newest) → IsStairs config passes part before (step ∷ newest) stop →
-      map counted_step downs ≡ downs_of (start_of config passes before) (step ∷ newest) [] [] →
+      map counted_step downs ≡ downs_of (stair_start_of config passes before) (step ∷ newest) [] [] →
       IsStairs config passes part stop downs events → AreOver config passes part downs events →
       (output : ℕ) (register : Reg) → output < config.count →
       counts_at config passes events output register ≡ counts_at config passes before output register

@@ -16,7 +16,7 @@ use Rattle.pm_stairs.specs.declared.step.WordAct.{WordAct}
 use Rattle.pm_stairs.specs.declared.step.WordAct.TheVariants as act
 use Rattle.pm_stairs.specs.declared.step.WordStep.{WordStep}
 use Rattle.pm_stairs.specs.Stairs.{Goes, stairs_new}
-use Rattle.pm_stairs.specs.Steps.{step_of}
+use Rattle.pm_stairs.specs.Steps.{step_of_words}
 use Rattle.pm_world.specs.declared.event.Event.{Event}
 use Rattle.pm_world.specs.Confirmed.{restarts_converter}
 use Rattle.pm_world.specs.Honest.{IsSpelled}
@@ -25,8 +25,8 @@ use Rattle.pm_world.specs.Life.{now}
 use Rattle.pm_world.specs.Lived.{IsLived}
 use Rattle.pm_world.specs.State.{asked}
 use Rattle.pm_sequence_laws.specs.Back.{back_step, counted_step, downs_of}
-use Rattle.pm_sequence_laws.specs.Due.{IsOf, step_under}
-use Rattle.pm_sequence_laws.specs.Stairs.{AreOver, AreSound, Deed, IsStairs, MayRest, Nothing, RailStep, Rails, Sets, Turns, counts_at, start_of}
+use Rattle.pm_sequence_laws.specs.Due.{IsOf, word_step_under}
+use Rattle.pm_sequence_laws.specs.Stairs.{AreOver, AreSound, Deed, IsStairs, MayRest, Nothing, RailStep, Rails, Sets, Turns, counts_at, stair_start_of}
 
 -- what a step in words does
 abbrev pub deed_of : WordAct → Deed
@@ -41,9 +41,9 @@ abbrev pub rail_steps : List WordStep → List RailStep
 rail_steps steps = map rail_step steps
 
 -- the first of the steps ahead
-abbrev pub first : List Step → Option Step
-first [] = None
-first (step ∷ steps) = Some step
+abbrev pub first_step_ahead : List Step → Option Step
+first_step_ahead [] = None
+first_step_ahead (step ∷ steps) = Some step
 
 -- a guard whose host is that of the life, and whose part has these registers
 pub record IsGuardAt (config : Config) (passes : ℕ) (part : PartRegisters) (events : List Event) (g : Guarded) : Type 0 where
@@ -63,25 +63,25 @@ pub data IsClimb (config : Config) (passes : ℕ) (part : PartRegisters) (steps 
       MayRest (asked (now config passes events) event) → IsClimb config passes part steps before begun backs ahead stairs (event ∷ events)
   says : (g : Guarded) (tries : ℕ) (next : Move) (begun backs : List WordStep) (ahead : List Step) (stairs new : Stairs) (events : List Event) →
       IsClimb config passes part steps before begun backs ahead stairs events → IsGuardAt config passes part events g →
-      Goes g tries (first ahead) stairs next new → step_under new ≡ step_under stairs →
+      Goes g tries (first_step_ahead ahead) stairs next new → word_step_under new ≡ word_step_under stairs →
       IsClimb config passes part steps before begun backs ahead new events
   asks : (g : Guarded) (tries : ℕ) (job : Asked) (begun backs : List WordStep) (ahead : List Step) (stairs new : Stairs) (events : List Event)
       (event : Event) →
       IsClimb config passes part steps before begun backs ahead stairs events → IsGuardAt config passes part events g →
-      Goes g tries (first ahead) stairs (Job job) new → asked_by event ≡ Some job →
+      Goes g tries (first_step_ahead ahead) stairs (Job job) new → asked_by event ≡ Some job →
       IsClimb config passes part steps before begun backs ahead new (event ∷ events)
   begins : (g : Guarded) (tries : ℕ) (job : Asked) (step back : WordStep) (wishes : Step) (begun backs : List WordStep) (ahead : List Step)
       (stairs new : Stairs) (events : List Event) (event : Event) →
       IsClimb config passes part steps before begun backs (wishes ∷ ahead) stairs events → IsGuardAt config passes part events g →
-      Goes g tries (Some wishes) stairs (Begins job back) new → step_under new ≡ Some step → asked_by event ≡ Some job →
+      Goes g tries (Some wishes) stairs (Begins job back) new → word_step_under new ≡ Some step → asked_by event ≡ Some job →
       IsClimb config passes part steps before (step ∷ begun) (back ∷ backs) ahead new (event ∷ events)
   passes_by : (g : Guarded) (tries : ℕ) (step back : WordStep) (wishes : Step) (begun backs : List WordStep) (ahead : List Step)
       (stairs new : Stairs) (events : List Event) →
       IsClimb config passes part steps before begun backs (wishes ∷ ahead) stairs events → IsGuardAt config passes part events g →
-      Goes g tries (Some wishes) stairs (Passes back) new → step_under new ≡ Some step →
+      Goes g tries (Some wishes) stairs (Passes back) new → word_step_under new ≡ Some step →
       IsClimb config passes part steps before (step ∷ begun) (back ∷ backs) ahead new events
   tells : (begun backs : List WordStep) (ahead : List Step) (stairs new : Stairs) (events : List Event) →
-      IsClimb config passes part steps before begun backs ahead stairs events → step_under new ≡ step_under stairs →
+      IsClimb config passes part steps before begun backs ahead stairs events → word_step_under new ≡ word_step_under stairs →
       IsClimb config passes part steps before begun backs ahead new events
 
 -- steps that undo those that have begun, each by the words of its own stair, as far as they count
@@ -108,11 +108,12 @@ pub record ClimbsAreStairs : Type 0 where
       (ahead : List Step) (stairs : Stairs) (events : List Event) →
       IsSpelled config → IsLived config passes events → IsClimb config passes part steps before begun backs ahead stairs events →
       AreSound config passes part before (rail_steps begun) →
-      AreBacks (start_of config passes before) (rail_steps begun) (rail_steps backs)
+      AreBacks (stair_start_of config passes before) (rail_steps begun) (rail_steps backs)
   pub reached : (config : Config) (passes : ℕ) (part : PartRegisters) (steps : List Step) (before : List Event) (step : WordStep)
       (begun backs : List WordStep) (ahead : List Step) (stairs new : Stairs) (events : List Event) (g : Guarded) (tries : ℕ) →
       IsClimb config passes part steps before (step ∷ begun) backs ahead stairs events → IsGuardAt config passes part events g →
-      Goes g tries (first ahead) stairs Reached new → (ahead ≡ []) × AreOver config passes part (rail_steps (step ∷ begun)) events
+      Goes g tries (first_step_ahead ahead) stairs Reached new → (ahead ≡ [])
+      × AreOver config passes part (rail_steps (step ∷ begun)) events
 
 -- steps that undo the newest of those that had begun, the newest first: they are on the way back
 pub record IsOnWayBack (start : Rails) (begun downs : List RailStep) : Type 0 where
@@ -129,13 +130,13 @@ pub record ClimbsComeBack : Type 0 where
       (ahead : List Step) (stairs : Stairs) (stop : List Event) (downs ups : List WordStep) (left : List Step) (back : Stairs) (events : List Event) →
       IsSpelled config → IsLived config passes stop → IsClimb config passes part steps before begun backs ahead stairs stop →
       AreSound config passes part before (rail_steps begun) →
-      IsClimb config passes part (map step_of backs) stop downs ups left back events →
-      IsOnWayBack (start_of config passes before) (rail_steps begun) (rail_steps downs)
+      IsClimb config passes part (map step_of_words backs) stop downs ups left back events →
+      IsOnWayBack (stair_start_of config passes before) (rail_steps begun) (rail_steps downs)
   pub back : (config : Config) (passes : ℕ) (part : PartRegisters) (steps : List Step) (before : List Event) (begun backs : List WordStep)
       (ahead : List Step) (stairs : Stairs) (stop : List Event) (downs ups : List WordStep) (left : List Step) (back new : Stairs)
       (events : List Event) (g : Guarded) (tries : ℕ) →
       IsSpelled config → IsLived config passes stop → IsLived config passes events →
       IsClimb config passes part steps before begun backs ahead stairs stop → AreSound config passes part before (rail_steps begun) →
-      IsClimb config passes part (map step_of backs) stop downs ups left back events → IsGuardAt config passes part events g →
-      Goes g tries (first left) back Reached new → (output : ℕ) (register : Reg) → output < config.count →
+      IsClimb config passes part (map step_of_words backs) stop downs ups left back events → IsGuardAt config passes part events g →
+      Goes g tries (first_step_ahead left) back Reached new → (output : ℕ) (register : Reg) → output < config.count →
       counts_at config passes events output register ≡ counts_at config passes before output register

@@ -2,7 +2,7 @@
 -- steps of what happens there. This project's own choice.
 use Rattle.std.specs.Prelude.{◌≡◌, ℕ, Bool, true, false, List, ◌∷◌, ◌++◌, nat_lt, Some}
 use Rattle.pm_device.specs.Held.{Held}
-use Rattle.pm_host.specs.Summary.{next as host_next, step_of}
+use Rattle.pm_host.specs.Summary.{host_next, step_of}
 use Rattle.pm_host.specs.Transcript.{Entry}
 use Rattle.pm_limits.specs.declared.part_registers.PartRegisters.{PartRegisters}
 use Rattle.pm_limits.specs.Guard.{Guarded}
@@ -29,8 +29,8 @@ pub record AreOf (held : Held) (passes : ℕ) (part : PartRegisters) (happened :
   pub registers : g.registers ≡ part
 
 -- a call answers how the job stands, and no refusal
-abbrev pub is_answered : HostStep → Bool
-is_answered step = nat_lt step.kind 5
+abbrev pub call_is_answered : HostStep → Bool
+call_is_answered step = nat_lt step.kind 5
 
 -- after a call that hands out a frame
 pub record StepsOn (held : Held) (passes : ℕ) (part : PartRegisters) (begun : FrameCourse) (before : List Happening) (own : Bool)
@@ -68,7 +68,7 @@ pub record ExportsAreStepsBeside : Type 0 where
       (g : Guarded) (old new : GuardImage) (was is : CourseImage) (event : Event) (entry : Entry) (step : HostStep) →
       IsFrameCourseBeside held passes part begun before c true later → AreOf held passes part (later ++ before) old was g c →
       begins_other event ≡ false → (share_of (beside held passes (later ++ before)) event).told ≡ Some entry →
-      is_answered step ≡ true → HearsIn old was entry step new is →
+      call_is_answered step ≡ true → HearsIn old was entry step new is →
       StepsTold held passes part begun before event later entry g new is
   pub told_on : (held : Held) (passes : ℕ) (part : PartRegisters) (begun c : FrameCourse) (later before : List Happening)
       (g : Guarded) (stops : Bool) (old new : GuardImage) (was is : CourseImage) (event : Event) (entry : Entry) (step : HostStep)
@@ -76,5 +76,5 @@ pub record ExportsAreStepsBeside : Type 0 where
       IsFrameCourseBeside held passes part begun before c true later → AreOf held passes part (later ++ before) old was g c →
       begins_other event ≡ false →
       (share_of (beside held passes (later ++ before)) event).told ≡ Some entry →
-      is_answered step ≡ true → HearsOnIn stops old was entry step new is sending →
+      call_is_answered step ≡ true → HearsOnIn stops old was entry step new is sending →
       StepsToldOn held passes part begun before event later entry g new is

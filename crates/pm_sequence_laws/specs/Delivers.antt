@@ -5,12 +5,12 @@ use Rattle.pm_table.specs.Codes as command
 use Rattle.pm_device.specs.declared.converter.Ending.TheVariants.{Restart}
 use Rattle.pm_device.specs.Held.{Held}
 use Rattle.pm_device.specs.Reply.{register_word}
-use Rattle.pm_device.specs.Status.{is_on}
+use Rattle.pm_device.specs.Status.{is_output_on}
 use Rattle.pm_rail.specs.declared.power.Power.{Power}
 use Rattle.pm_delivery.specs.declared.delivery.Delivery.{Delivery}
 use Rattle.pm_delivery.specs.declared.reading.Reading.{Reading}
 use Rattle.pm_delivery.specs.declared.verdict.Verdict.TheVariants.{Delivers, WentOff}
-use Rattle.pm_delivery.specs.Ended.{verdict_of}
+use Rattle.pm_delivery.specs.Ended.{delivery_verdict_of}
 use Rattle.pm_delivery.specs.Heard.{is_good}
 use Rattle.pm_delivery.specs.StatusBits.{has_bit, off, power_good_not}
 use Rattle.pm_part_laws.specs.Happenings.{Happening, Hears, beside}
@@ -32,7 +32,7 @@ pub record WasOn (held : Held) (passes : ℕ) (output : ℕ) (on : Bool) (later 
   pub off_is : has_bit (register_word (beside held passes (older ++ before)).device output command.status_word) off ≡ not on
   pub power_good : on ≡ true →
       has_bit (register_word (beside held passes (older ++ before)).device output command.status_word) power_good_not ≡ false
-  pub on_is : is_on (beside held passes (older ++ before)).device output ≡ on
+  pub on_is : is_output_on (beside held passes (older ++ before)).device output ≡ on
 
 -- what holds of each look at an output of a part
 abbrev pub OfALook : (Held → ℕ → Delivery → List Happening → List Happening → Type 0) → Type 0
@@ -48,6 +48,6 @@ pub record VerdictsAreOfAnswers : Type 0 where
   pub voltage : OfALook (λ held passes d later before. is_good d.read_vout ≡ true →
       WasAnswered held passes d.output command.read_vout d.read_vout.word later before)
   pub delivers : OfALook (λ held passes d later before. (most : ℕ) (power : Power) (reading : Reading) →
-      verdict_of d most power reading ≡ Delivers → WasOn held passes d.output true later before)
+      delivery_verdict_of d most power reading ≡ Delivers → WasOn held passes d.output true later before)
   pub went_off : OfALook (λ held passes d later before. (most : ℕ) (power : Power) (reading : Reading) →
-      verdict_of d most power reading ≡ WentOff → WasOn held passes d.output false later before)
+      delivery_verdict_of d most power reading ≡ WentOff → WasOn held passes d.output false later before)

@@ -20,16 +20,16 @@ use Rattle.pm_stairs.specs.Stairs.{Goes}
 use Rattle.pm_stairs.specs.Steps.{noted, step_with}
 
 -- the step that is under way
-abbrev pub step_under : Stairs → Option WordStep
-step_under stairs = option_map (λ under. under.step) stairs.under
+abbrev pub word_step_under : Stairs → Option WordStep
+word_step_under stairs = option_map (λ under. under.step) stairs.under
 
 -- a job that reads
-abbrev pub is_read : Asked → Bool
-is_read (Check cell) = true
-is_read (Learn output) = true
-is_read (Order cell word) = false
-is_read (OrderMicro cell x) = false
-is_read (Send command) = false
+abbrev pub is_reading_job : Asked → Bool
+is_reading_job (Check cell) = true
+is_reading_job (Learn output) = true
+is_reading_job (Order cell word) = false
+is_reading_job (OrderMicro cell x) = false
+is_reading_job (Send command) = false
 
 -- the job is the order that is due in a step, within some limits
 pub record IsDueOrder (part : PartRegisters) (s : Summary) (step : WordStep) (job : Asked) : Type 0 where
@@ -39,9 +39,9 @@ pub record IsDueOrder (part : PartRegisters) (s : Summary) (step : WordStep) (jo
   pub is_job : job ≡ Order (Out step.output order.register) order.word
 
 -- The step is over; nothing is asked where none is under way.
-abbrev pub IsDone : PartRegisters → Summary → Option WordStep → Type 0
-IsDone part s None = Unit {0}
-IsDone part s (Some step) = (limits : OutputLimits) × ((due_now part limits s step).over ≡ true)
+abbrev pub IsStepOver : PartRegisters → Summary → Option WordStep → Type 0
+IsStepOver part s None = Unit {0}
+IsStepOver part s (Some step) = (limits : OutputLimits) × ((due_now part limits s step).over ≡ true)
 
 -- the step may begin: what it changes is known
 abbrev pub LacksNone : PartRegisters → Summary → WordStep → Type 0
@@ -59,15 +59,15 @@ IsFirst ahead step = (wishes : Step) × ((ahead ≡ Some wishes) × IsOf wishes 
 -- known then, that order is due in it and nothing that it changes is unknown (`begins`), or it is over itself (`passes`); and the step that undoes
 -- it has the words that are known. Where all is reached, no step is ahead, and the last is over (`reached`).
 pub data Means (part : PartRegisters) (s : Summary) (ahead : Option Step) (old new : Option WordStep) : Move → Type 0 where
-  reads : (job : Asked) → is_read job ≡ true → new ≡ old → Means part s ahead old new (Job job)
+  reads : (job : Asked) → is_reading_job job ≡ true → new ≡ old → Means part s ahead old new (Job job)
   orders : (job : Asked) (step : WordStep) → old ≡ Some step → IsDueOrder part s step job → new ≡ old → Means part s ahead old new (Job job)
-  begins : (job : Asked) (step : WordStep) → IsDone part s old → IsFirst ahead step → IsDueOrder part s step job →
+  begins : (job : Asked) (step : WordStep) → IsStepOver part s old → IsFirst ahead step → IsDueOrder part s step job →
       LacksNone part s step → new ≡ Some step → Means part s ahead old new (Begins job (noted s step))
-  passes : (step : WordStep) → IsDone part s old → IsFirst ahead step → IsDone part s (Some step) → new ≡ Some step →
+  passes : (step : WordStep) → IsStepOver part s old → IsFirst ahead step → IsStepOver part s (Some step) → new ≡ Some step →
       Means part s ahead old new (Passes (noted s step))
-  reached : IsDone part s old → ahead ≡ None → new ≡ old → Means part s ahead old new Reached
+  reached : IsStepOver part s old → ahead ≡ None → new ≡ old → Means part s ahead old new Reached
   stops : (why : StepEnd) → new ≡ old → Means part s ahead old new (Stops why)
 
 abbrev pub MovesAreDue : Type 0
 MovesAreDue = (g : Guarded) (tries : ℕ) (ahead : Option Step) (old new : Stairs) (next : Move) → Goes g tries ahead old next new →
-    Means g.registers g.host ahead (step_under old) (step_under new) next
+    Means g.registers g.host ahead (word_step_under old) (word_step_under new) next

@@ -21,7 +21,8 @@ use Rattle.pm_world.specs.Life.{now}
 use Rattle.pm_world.specs.Lived.{IsLived}
 use Rattle.pm_world.specs.State.{asked}
 use Rattle.pm_stairs.specs.Command.{command_of}
-use Rattle.pm_sequence_laws.specs.Stairs.{AreOver, AreSound, Deed, IsStairs, MayRest, Nothing, RailStep, Sets, Turns, stair_of, start_of}
+use Rattle.pm_sequence_laws.specs.Stairs.{AreOver, AreSound, Deed, IsStairs, MayRest, Nothing, RailStep, Sets, Turns, stair_of}
+use Rattle.pm_sequence_laws.specs.Stairs.{stair_start_of}
 
 -- an order that a deed has next, by what the host knows now
 abbrev pub IsNextOrder : Config → ℕ → PartRegisters → ℕ → Deed → List Event → Reg → ℕ → Type 0
@@ -43,10 +44,10 @@ IsKnownFrom config passes part before done output (Sets wants) events =
     (limits : OutputLimits) (order : Option PlanOrder) (register : Reg) (word : ℕ) →
     plan_of part (now config passes events).host limits output wants ≡ Ok order → wants register ≡ Some word →
     known_word (Out output register) (possible_at (now config passes events).host (Out output register))
-    ≡ Some (stair_of (start_of config passes before) done output register)
+    ≡ Some (stair_of (stair_start_of config passes before) done output register)
 IsKnownFrom config passes part before done output (Turns byte) events = (word : ℕ) →
     sole (possible_at (now config passes events).host (Out output Operation)) ≡ Some word →
-    command_of word ≡ stair_of (start_of config passes before) done output Operation
+    command_of word ≡ stair_of (stair_start_of config passes before) done output Operation
 IsKnownFrom config passes part before done output Nothing events = Unit {0}
 
 -- Steps are carried out event by event. None has begun where the host is idle at first (`none`), and an event that asks for

@@ -17,9 +17,9 @@ use Rattle.pm_sequence.specs.declared.sequence.Fresh.TheVariants as fresh
 use Rattle.pm_sequence.specs.declared.sequence.Sequence.{Sequence}
 use Rattle.pm_sequence.specs.declared.step.Step.{Step}
 use Rattle.pm_sequence.specs.Frames.{Hears}
-use Rattle.pm_sequence.specs.Gate.{is_on_order, is_order}
+use Rattle.pm_sequence.specs.Gate.{is_on_order, is_job_order}
 use Rattle.pm_sequence.specs.Sequence.{Acts, afresh_with, asked_of, is_fresh, shown}
-use Rattle.pm_sequence_laws.specs.Turned.{is_begin}
+use Rattle.pm_sequence_laws.specs.Turned.{is_turn_begin}
 
 -- an act by which nothing is sent, and no time passes
 abbrev pub rests : Act → Bool
@@ -42,7 +42,7 @@ pub record BeginsAnew (g : Guarded) (ahead : Option Step) (old new : Sequence) (
   pub x : Turn
   pub list : List
   pub names : Turns g (shown old ahead) old.list x list
-  pub is : new ≡ afresh_with (asked_of old list (is_begin x))
+  pub is : new ≡ afresh_with (asked_of old list (is_turn_begin x))
   pub again : said ≡ act.Again
   pub unread : IfSome (course_open new.list.stairs) (λ course.
       (course.course.survey.learned ≡ false) × (course.course.survey.read ≡ nothing_read))
@@ -52,7 +52,7 @@ pub record BeginsAnew (g : Guarded) (ahead : Option Step) (old new : Sequence) (
 pub data ComesFresh (g : Guarded) (ahead : Option Step) (old new : Sequence) : Act → Type 0 where
   ends : (said : Act) → new.fresh ≡ fresh.Nothing → ComesFresh g ahead old new said
   anew : (said : Act) → BeginsAnew g ahead old new said → ComesFresh g ahead old new said
-  reads : (job : Job) → is_order job ≡ false → new.fresh ≡ old.fresh → is_fresh new.fresh new.list.stairs.reading ≡ true →
+  reads : (job : Job) → is_job_order job ≡ false → new.fresh ≡ old.fresh → is_fresh new.fresh new.list.stairs.reading ≡ true →
       ComesFresh g ahead old new (act.Job job)
   stays : (said : Act) → rests said ≡ true → new.fresh ≡ old.fresh → ComesFresh g ahead old new said
 

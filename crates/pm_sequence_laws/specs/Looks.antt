@@ -8,7 +8,7 @@ use Rattle.pm_delivery.specs.declared.delivery.Delivery.{Delivery}
 use Rattle.pm_delivery.specs.declared.question.Question.{Question}
 use Rattle.pm_delivery.specs.Deliveries.{again, heard_of, looking_after, with_heard}
 use Rattle.pm_delivery.specs.Heard.{heard_after}
-use Rattle.pm_delivery.specs.Questions.{answer_in, question_code, question_size}
+use Rattle.pm_delivery.specs.Questions.{answer_to_question, question_code, question_size}
 use Rattle.pm_world.specs.Legal.{is_heard_whole, is_legal_return}
 use Rattle.pm_world.specs.Legal as legal
 use Rattle.pm_part_laws.specs.Happenings.{Happening, Hears, beside}
@@ -29,7 +29,7 @@ pub data IsLook (held : Held) (passes : ℕ) (before : List Happening) : Deliver
       CameBack (beside held passes (later ++ before)).device (paged_request held.config.addr d.output (question_code question))
       (question_size question) heard ending bytes →
       IsLook held passes before
-      (with_heard d question (heard_after (heard_of d question) (answer_in held.config.addr d.output question bytes)))
+      (with_heard d question (heard_after (heard_of d question) (answer_to_question held.config.addr d.output question bytes)))
       (Hears heard ending ∷ later)
   asks_again : (d : Delivery) (later : List Happening) → IsLook held passes before d later → IsLook held passes before (again d) later
   passes_by : (d : Delivery) (one : Happening) (later : List Happening) → IsLook held passes before d later →

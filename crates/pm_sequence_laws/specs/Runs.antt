@@ -12,8 +12,8 @@ use Rattle.pm_delivery.specs.declared.verdict.Verdict.{Verdict}
 use Rattle.pm_sequence.specs.declared.sequence.Sequence.{Sequence}
 use Rattle.pm_sequence.specs.declared.step.Step.{Step}
 use Rattle.pm_sequence.specs.Frames.{job_named, refusal_end, refused_act, refused_after}
-use Rattle.pm_sequence.specs.Gate.{is_order}
-use Rattle.pm_sequence.specs.Sequence.{Acts, is_good, new_sequence}
+use Rattle.pm_sequence.specs.Gate.{is_job_order}
+use Rattle.pm_sequence.specs.Sequence.{Acts, is_verdict_good, new_sequence}
 
 -- an order of a step began; its rail was looked at, and does what it is to; a step was left
 pub data Mark : Type 0 where
@@ -31,7 +31,7 @@ under_at steps (suc place) = steps place
 
 -- what an act tells
 abbrev pub marks_of : ℕ → Act → List Mark
-marks_of n (act.Job job) = if is_order job then Orders n ∷ [] else []
+marks_of n (act.Job job) = if is_job_order job then Orders n ∷ [] else []
 marks_of n (act.Begins job back) = Orders n ∷ []
 marks_of n (act.Passes back) = []
 marks_of n (act.Order job) = []
@@ -69,7 +69,7 @@ pub data Runs (steps : Places) (tries : ℕ) (rules : Rules) : List Mark → Seq
 abbrev pub settled : Places → List Mark → ℕ → Bool
 settled steps [] n = false
 settled steps (Orders m ∷ marks) n = if m == n then false else settled steps marks n
-settled steps (Does m found ∷ marks) n = if m == n then is_good (under_at steps n) found else settled steps marks n
+settled steps (Does m found ∷ marks) n = if m == n then is_verdict_good (under_at steps n) found else settled steps marks n
 settled steps (Leaves ∷ marks) n = settled steps marks n
 
 -- a step that has to deliver

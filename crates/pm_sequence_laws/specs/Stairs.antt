@@ -28,7 +28,7 @@ use Rattle.pm_world.specs.Life.{now}
 use Rattle.pm_world.specs.Limited.{commands}
 use Rattle.pm_world.specs.Lived.{IsLived}
 use Rattle.pm_world.specs.Plans.{IsPlansOrder, held_at}
-use Rattle.pm_world.specs.Possible.{has_read}
+use Rattle.pm_world.specs.Possible.{host_has_read}
 use Rattle.pm_world.specs.State.{asked}
 use Rattle.pm_stairs.specs.Command.{command_of, same_command}
 
@@ -46,12 +46,12 @@ pub record RailStep : Type 0 where
   pub deed : Deed
 
 -- A word of a register that counts: of OPERATION its command, without the bits that don't count.
-abbrev pub counted : Reg → ℕ → ℕ
-counted Operation word = command_of word
-counted register word = word
+abbrev pub counting_word : Reg → ℕ → ℕ
+counting_word Operation word = command_of word
+counting_word register word = word
 
 abbrev pub counts : Held → Held
-counts held register = counted register (held register)
+counts held register = counting_word register (held register)
 
 -- the words of an output after a deed, as far as they count
 abbrev pub done_to : Held → Deed → Held
@@ -87,12 +87,12 @@ abbrev pub counts_at : Config → ℕ → List Event → ℕ → Held
 counts_at config passes events output = counts (held_at config passes events output)
 
 -- the stair of these steps, from what each output's words were before
-abbrev pub start_of : Config → ℕ → List Event → Rails
-start_of config passes before output = counts_at config passes before output
+abbrev pub stair_start_of : Config → ℕ → List Event → Rails
+stair_start_of config passes before output = counts_at config passes before output
 
 abbrev pub stair_stand : Config → ℕ → List Event → List RailStep → ℕ → Stand
 stair_stand config passes before steps output =
-    stand_by (value_for config output) (stair_of (start_of config passes before) steps output)
+    stand_by (value_for config output) (stair_of (stair_start_of config passes before) steps output)
 
 -- ---- What is done, one step after another ----
 
@@ -104,18 +104,18 @@ IsDeedsOrder config passes part output (Turns byte) later before register word =
 IsDeedsOrder config passes part output Nothing later before register word = ⊥
 
 -- what the host is asked for is no restore, and no order of any output but one of this deed for its own
-abbrev pub MayStep : Config → ℕ → PartRegisters → ℕ → Deed → List Event → List Event → Option host.Job → Type 0
-MayStep config passes part output deed later before (Some (host.Order (Out other register) word)) =
+abbrev pub AsksWithinDeed : Config → ℕ → PartRegisters → ℕ → Deed → List Event → List Event → Option host.Job → Type 0
+AsksWithinDeed config passes part output deed later before (Some (host.Order (Out other register) word)) =
     (other ≡ output) × IsDeedsOrder config passes part output deed later before register word
-MayStep config passes part output deed later before (Some (host.Send RestoreUserAll)) = ⊥
-MayStep config passes part output deed later before job = Unit {0}
+AsksWithinDeed config passes part output deed later before (Some (host.Send RestoreUserAll)) = ⊥
+AsksWithinDeed config passes part output deed later before job = Unit {0}
 
 -- each of the later events asks for nothing but such a job, and restarts no converter
 abbrev pub IsOfStep : Config → ℕ → PartRegisters → ℕ → Deed → List Event → List Event → Type 0
 IsOfStep config passes part output deed [] before = Unit {0}
 IsOfStep config passes part output deed (event ∷ later) before =
     (restarts_converter event ≡ false)
-    × MayStep config passes part output deed later before (asked (now config passes (later ++ before)) event)
+    × AsksWithinDeed config passes part output deed later before (asked (now config passes (later ++ before)) event)
     × IsOfStep config passes part output deed later before
 
 -- before the first step: no order of any output, and no restore; what the host knows may be read
@@ -165,10 +165,10 @@ pub data IsStairs (config : Config) (passes : ℕ) (part : PartRegisters) (befor
 abbrev pub IsReadFor : Config → ℕ → ℕ → Deed → Held → List Event → Type 0
 IsReadFor config passes output (Sets wants) held before = (register : Reg) →
     is_needed held wants register ≡ true →
-    has_read config passes (Out output register) before ≡ true →
+    host_has_read config passes (Out output register) before ≡ true →
     restarted_since config passes (Out output register) before ≡ false
 IsReadFor config passes output (Turns byte) held before =
-    has_read config passes (Out output Operation) before ≡ true →
+    host_has_read config passes (Out output Operation) before ≡ true →
     restarted_since config passes (Out output Operation) before ≡ false
 IsReadFor config passes output Nothing held before = Unit {0}
 
@@ -191,7 +191,7 @@ pub record IsSoundStep (config : Config) (passes : ℕ) (part : PartRegisters) (
 abbrev pub AreSound : Config → ℕ → PartRegisters → List Event → List RailStep → Type 0
 AreSound config passes part before [] = Unit {0}
 AreSound config passes part before (step ∷ done) =
-    IsSoundStep config passes part before step (stair_of (start_of config passes before) done step.output)
+    IsSoundStep config passes part before step (stair_of (stair_start_of config passes before) done step.output)
     × AreSound config passes part before done
 
 -- ---- What holds ----
@@ -203,7 +203,7 @@ IsBetween config passes before [] events = (output : ℕ) (register : Reg) → o
     held_at config passes events output register ≡ held_at config passes before output register
 IsBetween config passes before (step ∷ done) events =
     ((output : ℕ) (register : Reg) → output < config.count → (output == step.output) ≡ false →
-    counts_at config passes events output register ≡ stair_of (start_of config passes before) done output register)
+    counts_at config passes events output register ≡ stair_of (stair_start_of config passes before) done output register)
     × ((stands_at config passes events step.output ≡ stair_stand config passes before done step.output)
     ⊎ (stands_at config passes events step.output ≡ stair_stand config passes before (step ∷ done) step.output))
 
@@ -248,11 +248,11 @@ pub record KeepsStairs (config : Config) (passes : ℕ) (events : List Event) : 
   pub over : (part : PartRegisters) (steps : List RailStep) (before : List Event) →
       AreSound config passes part before steps → IsStairs config passes part before steps events →
       AreOver config passes part steps events → (output : ℕ) (register : Reg) → output < config.count →
-      counts_at config passes events output register ≡ stair_of (start_of config passes before) steps output register
+      counts_at config passes events output register ≡ stair_of (stair_start_of config passes before) steps output register
   pub read : (part : PartRegisters) (steps : List RailStep) (before : List Event) (cell : Cell) →
       AreSound config passes part before steps → IsStairs config passes part before steps events →
-      (has_read config passes cell before ≡ true → restarted_since config passes cell before ≡ false) →
-      has_read config passes cell events ≡ true → restarted_since config passes cell events ≡ false
+      (host_has_read config passes cell before ≡ true → restarted_since config passes cell before ≡ false) →
+      host_has_read config passes cell events ≡ true → restarted_since config passes cell events ≡ false
   pub missing : (part : PartRegisters) (steps : List RailStep) (before : List Event) (output : ℕ) →
       AreSound config passes part before steps → IsStairs config passes part before steps events → output < config.count →
       HoldsMissing part config (now config passes before).device.words output →

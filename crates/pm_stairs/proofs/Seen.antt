@@ -10,7 +10,7 @@ use Rattle.pm_rail.specs.declared.wanted.Wanted.{Wanted}
 use Rattle.pm_rail.specs.Orders.{plan_of}
 use Rattle.pm_rail.specs.Registers.{Wants}
 use Rattle.pm_stairs.specs.declared.step.WordStep.{WordStep}
-use Rattle.pm_stairs.specs.WayBack.{goal_at, lasting, plan_fault, way_back_fault}
+use Rattle.pm_stairs.specs.WayBack.{goal_of_step, lasting, plan_fault, way_back_fault}
 
 -- a plan by what is seen is one by the guard
 pub planned : {part p : PartRegisters} {s t : Summary} {l m : OutputLimits} → part ≡ p → s ≡ t → l ≡ m → (output : ℕ) (wants : Wants)
@@ -19,12 +19,12 @@ planned part-is s-is l-is output wants = rw (part-is, s-is, l-is) refl
 
 -- the fault of a way back whose words are known
 pub back-some : (g : Guarded) (back : WordStep) (wanted : Wanted) (fault : PlanFault) → nat_lt back.output 8 ≡ true
-    → goal_at g.host back.output back.act ≡ Some wanted → plan_fault g back.output wanted ≡ Some fault
+    → goal_of_step g.host back.output back.act ≡ Some wanted → plan_fault g back.output wanted ≡ Some fault
     → way_back_fault g back ≡ lasting fault
 unfolding way_back_fault
 back-some g back wanted fault small goal is = rw (small, goal, is) refl
 
 pub back-none : (g : Guarded) (back : WordStep) (wanted : Wanted) → nat_lt back.output 8 ≡ true
-    → goal_at g.host back.output back.act ≡ Some wanted → plan_fault g back.output wanted ≡ None → way_back_fault g back ≡ None
+    → goal_of_step g.host back.output back.act ≡ Some wanted → plan_fault g back.output wanted ≡ None → way_back_fault g back ≡ None
 unfolding way_back_fault
 back-none g back wanted small goal is = rw (small, goal, is) refl

@@ -58,13 +58,13 @@ due_byte s output byte = record {
   lacks = rule (is_none (sole (possible_at s (Out output Operation)))) (Out output Operation);
 }
 
-abbrev pub due_of : PartRegisters → OutputLimits → Summary → ℕ → WordAct → Due
-due_of part limits s output (Sets words) = due_words (plan_of part s limits output (wants_of words))
-due_of part limits s output (Turns byte) = due_byte s output byte
-due_of part limits s output Nothing = record { order = None; over = not (is_busy s); lacks = None }
+abbrev pub step_due_of : PartRegisters → OutputLimits → Summary → ℕ → WordAct → Due
+step_due_of part limits s output (Sets words) = due_words (plan_of part s limits output (wants_of words))
+step_due_of part limits s output (Turns byte) = due_byte s output byte
+step_due_of part limits s output Nothing = record { order = None; over = not (is_busy s); lacks = None }
 
 abbrev pub due_now : PartRegisters → OutputLimits → Summary → WordStep → Due
-due_now part limits s step = due_of part limits s step.output step.act
+due_now part limits s step = step_due_of part limits s step.output step.act
 
 -- a job is the order that is due
 abbrev pub is_due_order : ℕ → Option PlanOrder → Cell → ℕ → Bool
@@ -72,9 +72,9 @@ is_due_order output None cell word = false
 is_due_order output (Some order) cell word = same_cell cell (Out output order.register) && word == order.word
 
 -- what is looked at first; and otherwise this
-abbrev pub looking : Option Cell → Said → Said
-looking None said = said
-looking (Some cell) said = Looks cell
+abbrev pub looking_first : Option Cell → Said → Said
+looking_first None said = said
+looking_first (Some cell) said = Looks cell
 
 -- Before a step turns its output off OPERATION is read in it, whatever is known, so that the step that undoes it has what the part holds.
 abbrev pub is_unread_off : Course → Cell → ℕ → Bool
@@ -86,7 +86,7 @@ is_unread_off course Protect word = false
 -- isn't due stops the steps.
 abbrev pub giving : Bool → Course → Due → Cell → ℕ → Said
 giving begun course due cell word = if begun then Orders cell word
-    else (if is_unread_off course cell word then Looks cell else looking due.lacks (Orders cell word))
+    else (if is_unread_off course cell word then Looks cell else looking_first due.lacks (Orders cell word))
 
 -- A step that is over without the order gets none: of a byte that leaves the output on, where all was read since its last order; of one that
 -- turns it off, where that was ordered and read back, with bits that don't count.
@@ -98,16 +98,16 @@ ordered begun output course due cell word = if is_due_order output due.order cel
     then (if is_settled course due word then Over else giving begun course due cell word) else Stops Changed
 
 -- what the course reads is read
-abbrev pub asked_for : Bool → ℕ → Course → Due → Asked → Said
-asked_for begun output course due (Order cell word) = ordered begun output course due cell word
-asked_for begun output course due (Check cell) = Reads (Check cell)
-asked_for begun output course due (Learn at) = Reads (Learn at)
-asked_for begun output course due (OrderMicro cell x) = Stops Changed
-asked_for begun output course due (Send command) = Stops Changed
+abbrev pub said_of_asked_job : Bool → ℕ → Course → Due → Asked → Said
+said_of_asked_job begun output course due (Order cell word) = ordered begun output course due cell word
+said_of_asked_job begun output course due (Check cell) = Reads (Check cell)
+said_of_asked_job begun output course due (Learn at) = Reads (Learn at)
+said_of_asked_job begun output course due (OrderMicro cell x) = Stops Changed
+said_of_asked_job begun output course due (Send command) = Stops Changed
 
 -- A course has ended `Reached`: the step is over if it is so by what is known now.
 abbrev pub reached : Due → Said
-reached due = if due.over then Over else looking due.lacks (Stops Changed)
+reached due = if due.over then Over else looking_first due.lacks (Stops Changed)
 
 -- Its order of OPERATION differed twice: the step is over if it is so by what is known now.
 abbrev pub differs_for : Due → Reg → ℕ → Said
@@ -121,5 +121,5 @@ ended_for due end = Stops (why.Course end)
 
 -- what the stairs make of what the course of a step says, which has begun or begins now
 abbrev pub said_of : Bool → ℕ → Course → Due → CourseNext → Said
-said_of begun output course due (Job job) = asked_for begun output course due job
+said_of begun output course due (Job job) = said_of_asked_job begun output course due job
 said_of begun output course due (Ended end) = ended_for due end

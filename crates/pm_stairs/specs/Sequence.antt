@@ -74,14 +74,14 @@ ahead_here q None = None
 ahead_here q (Some placed) = rule (placed.host == q.host && not (is_at_once q.keeps_back placed.step.act)) placed.step
 
 -- a list has at most 65,535 steps
-abbrev pub one_more : ℕ → ℕ
-one_more begun = if nat_lt begun 65535 then begun + 1 else begun
+abbrev pub one_step_more : ℕ → ℕ
+one_step_more begun = if nat_lt begun 65535 then begun + 1 else begun
 
 -- one step more has begun, of the host that was asked
 abbrev pub one_begun : Sequence → Stairs → Sequence
 one_begun q stairs = record q {
   stairs = stairs;
-  begun = one_more q.begun;
+  begun = one_step_more q.begun;
   under_host = q.host;
   is_free = false;
   is_warned = false;
@@ -121,15 +121,15 @@ begins_after q asked (Some fault) = record q { is_free = false; is_warned = true
 abbrev pub with_stairs : Sequence → Stairs → Sequence
 with_stairs q stairs = record q { stairs = stairs }
 
-abbrev pub reached_after : Sequence → Stairs → Option Placed → Sequence
-reached_after q asked None = record q { stairs = asked }
-reached_after q asked (Some placed) = record q { stairs = asked; is_free = true; host = placed.host }
+abbrev pub stairs_reached_after : Sequence → Stairs → Option Placed → Sequence
+stairs_reached_after q asked None = record q { stairs = asked }
+stairs_reached_after q asked (Some placed) = record q { stairs = asked; is_free = true; host = placed.host }
 
 abbrev pub turned_after : Option Placed → Sequence → Move → Stairs → Option PlanFault → Sequence
 turned_after ahead q (move.Job job) asked refused = record q { stairs = asked; is_free = false }
 turned_after ahead q (move.Begins job back) asked refused = begins_after q asked refused
 turned_after ahead q (move.Passes back) asked refused = one_begun q asked
-turned_after ahead q move.Reached asked refused = reached_after q asked ahead
+turned_after ahead q move.Reached asked refused = stairs_reached_after q asked ahead
 turned_after ahead q (move.Stops why) asked refused = record q { stairs = asked; is_free = false }
 
 -- why the way back of the step that begins would be refused
@@ -186,7 +186,7 @@ left stairs = record stairs { under = None; coming = None; reading = false }
 abbrev pub skipped : Sequence → Sequence
 skipped q = record q {
   stairs = left q.stairs;
-  begun = if has_begun q then q.begun else one_more q.begun;
+  begun = if has_begun q then q.begun else one_step_more q.begun;
   is_free = false;
   is_warned = false;
 }

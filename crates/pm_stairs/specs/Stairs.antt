@@ -40,8 +40,8 @@ is_there g output = nat_lt output g.host.setup.outputs
 abbrev pub are_there : Guarded → WordStep → FrameCourse → Bool
 are_there g step course = is_there g step.output && is_there g course.course.survey.output
 
-abbrev pub no_output : Refusal
-no_output = record { number = host_fault_number UnknownOutput; register = None }
+abbrev pub no_output_refusal : Refusal
+no_output_refusal = record { number = host_fault_number UnknownOutput; register = None }
 
 -- a look takes a try of the step's course, as each job does
 abbrev pub trying : FrameCourse → Said → Said
@@ -72,7 +72,7 @@ pub record SaysStep (g : Guarded) (begun : Bool) (step : WordStep) (old : FrameC
 
 -- the words of a step's wishes, by the format that is known, or why one has none
 pub data HasWords (g : Guarded) (c : FrameCourse) : Result Wanted Refusal → Type 0 where
-  absent : is_there g c.course.survey.output ≡ false → HasWords g c (Err no_output)
+  absent : is_there g c.course.survey.output ≡ false → HasWords g c (Err no_output_refusal)
   formed : (words : Result Wanted Refusal) → AreFormed (format_now g.host c.course) (wanted_in c.course.survey.plan) c.voltages words →
       HasWords g c words
 
@@ -92,7 +92,7 @@ under_after old step course = record old { under = Some (record { step = step; c
 pub data GoesUnder (g : Guarded) (old : Stairs) : Option Move → Stairs → Type 0 where
   free : old.under ≡ None → GoesUnder g old None (record old { reading = false })
   absent : (under : Under) → old.under ≡ Some under → are_there g under.step under.course ≡ false →
-      GoesUnder g old (Some (move.Stops (Course (Refused no_output)))) (record old { reading = false })
+      GoesUnder g old (Some (move.Stops (Course (Refused no_output_refusal)))) (record old { reading = false })
   asks : (under : Under) (said : Said) (course : FrameCourse) → old.under ≡ Some under →
       SaysStep g true under.step under.course said course → GoesUnder g old (under_move said) (under_after old under.step course)
 
@@ -109,19 +109,20 @@ begins_now (Orders cell word) = true
 begins_now Over = true
 begins_now said = false
 
-abbrev pub begun_with : Stairs → WordStep → FrameCourse → Stairs
-begun_with old step course = record old { under = Some (record { step = step; course = course }); coming = None; reading = false }
+abbrev pub step_begun_with : Stairs → WordStep → FrameCourse → Stairs
+step_begun_with old step course = record old { under = Some (record { step = step; course = course }); coming = None; reading = false }
 
-abbrev pub reading_for : Stairs → FrameCourse → Stairs
-reading_for old course = record old { coming = Some course; reading = true }
+abbrev pub stairs_reading_for : Stairs → FrameCourse → Stairs
+stairs_reading_for old course = record old { coming = Some course; reading = true }
 
-abbrev pub ahead_after : Stairs → WordStep → FrameCourse → Bool → Stairs
-ahead_after old step course begins = if begins then begun_with old step course else reading_for old course
+abbrev pub stairs_ahead_after : Stairs → WordStep → FrameCourse → Bool → Stairs
+stairs_ahead_after old step course begins = if begins then step_begun_with old step course else stairs_reading_for old course
 
 pub data AsksAhead (g : Guarded) (step : WordStep) (course : FrameCourse) (old : Stairs) : Move → Stairs → Type 0 where
-  absent : are_there g step course ≡ false → AsksAhead g step course old (move.Stops (Course (Refused no_output))) (reading_for old course)
+  absent : are_there g step course ≡ false →
+      AsksAhead g step course old (move.Stops (Course (Refused no_output_refusal))) (stairs_reading_for old course)
   asks : (said : Said) (after : FrameCourse) → SaysStep g false step course said after →
-      AsksAhead g step course old (ahead_move (noted g.host step) said) (ahead_after old step after (begins_now said))
+      AsksAhead g step course old (ahead_move (noted g.host step) said) (stairs_ahead_after old step after (begins_now said))
 
 -- the course of the first step ahead: as far as it has come, or a new one
 abbrev pub coming_course : Stairs → Step → ℕ → FrameCourse
@@ -129,7 +130,7 @@ coming_course old step tries = unwrap_or old.coming (step_course step tries)
 
 pub data GoesAhead (g : Guarded) (tries : ℕ) (step : Step) (old : Stairs) : Move → Stairs → Type 0 where
   unformed : (refusal : Refusal) → HasWords g (coming_course old step tries) (Err refusal) →
-      GoesAhead g tries step old (move.Stops (Course (Refused refusal))) (reading_for old (coming_course old step tries))
+      GoesAhead g tries step old (move.Stops (Course (Refused refusal))) (stairs_reading_for old (coming_course old step tries))
   asks : (words : Wanted) (next : Move) (new : Stairs) → HasWords g (coming_course old step tries) (Ok words) →
       AsksAhead g (step_with step words) (coming_course old step tries) old next new → GoesAhead g tries step old next new
 

@@ -87,10 +87,10 @@ abbrev pub noted : Summary → WordStep → WordStep
 noted s step = record { output = step.output; act = act_back s step.output step.act }
 
 -- a step in words, as one to carry out
-abbrev pub act_of : WordAct → Act
-act_of (Sets words) = act.Words words
-act_of (Turns byte) = act.Turns byte
-act_of Nothing = act.Rests
+abbrev pub act_of_words : WordAct → Act
+act_of_words (Sets words) = act.Words words
+act_of_words (Turns byte) = act.Turns byte
+act_of_words Nothing = act.Rests
 
-abbrev pub step_of : WordStep → Step
-step_of step = record { output = step.output; act = act_of step.act }
+abbrev pub step_of_words : WordStep → Step
+step_of_words step = record { output = step.output; act = act_of_words step.act }

@@ -31,10 +31,10 @@ selected_at s output register =
     option_map (λ word. one_word register word) (known_word (Out output register) (possible_at s (Out output register)))
 
 -- the words that a step leads to: of a byte that leaves the output on that of the register that it selects
-abbrev pub goal_at : Summary → ℕ → WordAct → Option Wanted
-goal_at s output (Sets words) = Some words
-goal_at s output (Turns byte) = if has_on byte then selected_at s output (selected_register byte) else None
-goal_at s output Nothing = None
+abbrev pub goal_of_step : Summary → ℕ → WordAct → Option Wanted
+goal_of_step s output (Sets words) = Some words
+goal_of_step s output (Turns byte) = if has_on byte then selected_at s output (selected_register byte) else None
+goal_of_step s output Nothing = None
 
 -- why the plan to these words is refused
 abbrev pub plan_fault : Guarded → ℕ → Wanted → Option PlanFault
@@ -57,4 +57,4 @@ lasting (Protected register) = Some (Protected register)
 unfoldable pub way_back_fault : Guarded → WordStep → Option PlanFault
 way_back_fault g back = if nat_lt back.output 8
     then option_and_then (λ wanted. option_and_then lasting (plan_fault g back.output wanted))
-    (goal_at g.host back.output back.act) else None
+    (goal_of_step g.host back.output back.act) else None

@@ -2,7 +2,7 @@
 
 ghost use Rattle.std.specs.Prelude.{◌≡◌};
 ghost use Rattle.pm_table.specs.Cell.{same_cell};
-ghost use Rattle.pm_stairs.specs.Due.{asked_for as spec_asked_for, is_due_order as spec_is_due_order, is_settled as spec_is_settled, is_unread_off as spec_is_unread_off, looking as spec_looking, ordered as spec_ordered, reached as spec_reached, said_of as spec_said_of};
+ghost use Rattle.pm_stairs.specs.Due.{said_of_asked_job as spec_asked_for, is_due_order as spec_is_due_order, is_settled as spec_is_settled, is_unread_off as spec_is_unread_off, looking_first as spec_looking, ordered as spec_ordered, reached as spec_reached, said_of as spec_said_of};
 
 use crate::due::Due;
 use pm_course::{CourseEnd, CourseNext};

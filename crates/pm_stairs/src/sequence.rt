@@ -3,7 +3,7 @@
 ghost use Rattle.std.specs.Prelude.{◌≡◌, is_some};
 ghost use Rattle.std.specs.Option.{option_copied};
 ghost use Rattle.pm_stairs.specs.OpenCourse.{course_open as spec_course_open, is_job_at as spec_is_job_at};
-ghost use Rattle.pm_stairs.specs.Sequence.{ahead_here as spec_ahead_here, asked_apart as spec_asked_apart, at_once, has_begun as spec_has_begun, heard_with, host_due as spec_host_due, is_at_once as spec_is_at_once, is_under as spec_is_under, off_at_once as spec_off_at_once, one_begun, one_more as spec_one_more, refused_back as spec_refused_back, refused_for as spec_refused_for, refused_in, sequence_new, skipped, step_stopped, turned, turned_after, with_stairs, Says, Turns};
+ghost use Rattle.pm_stairs.specs.Sequence.{ahead_here as spec_ahead_here, asked_apart as spec_asked_apart, at_once, has_begun as spec_has_begun, heard_with, host_due as spec_host_due, is_at_once as spec_is_at_once, is_under as spec_is_under, off_at_once as spec_off_at_once, one_begun, one_step_more as spec_one_more, refused_back as spec_refused_back, refused_for as spec_refused_for, refused_in, sequence_new, skipped, step_stopped, turned, turned_after, with_stairs, Says, Turns};
 
 use crate::said::StepEnd;
 use crate::sight::Sight;

@@ -6,7 +6,7 @@ ghost use Rattle.pm_limits.specs.Guard.{limits_at};
 ghost use Rattle.pm_stairs.specs.Due.{due_now, said_of as spec_said_of};
 ghost use Rattle.pm_stairs.specs.Sequence.{GoesApart};
 ghost use Rattle.pm_stairs.specs.Steps.{noted as spec_noted};
-ghost use Rattle.pm_stairs.specs.Stairs.{ahead_move as spec_ahead_move, are_there as spec_are_there, begins_now as spec_begins_now, begun_with, coming_course, course_after, looked as spec_looked, no_output as spec_no_output, reading_for, stairs_new, trying as spec_trying, under_move as spec_under_move, AsksAhead, Goes, GoesAhead, GoesUnder, HasWords, SaysStep};
+ghost use Rattle.pm_stairs.specs.Stairs.{ahead_move as spec_ahead_move, are_there as spec_are_there, begins_now as spec_begins_now, step_begun_with, coming_course, course_after, looked as spec_looked, no_output_refusal as spec_no_output, stairs_reading_for, stairs_new, trying as spec_trying, under_move as spec_under_move, AsksAhead, Goes, GoesAhead, GoesUnder, HasWords, SaysStep};
 
 use crate::due::Due;
 use crate::said::{Said, StepEnd, said_of};
@@ -153,7 +153,7 @@ impl Stairs {
 
     // A step begins.
     fn begins(&mut self, step: &WordStep, course: &FrameCourse)
-        ensures { self.new ≡ begun_with self.old step.now course.now }
+        ensures { self.new ≡ step_begun_with self.old step.now course.now }
     {
         self.under = Some(Under {
             step: *step,
@@ -165,7 +165,7 @@ impl Stairs {
 
     // The first step ahead has asked for something, and hasn't begun.
     fn reads_for(&mut self, course: &FrameCourse)
-        ensures { self.new ≡ reading_for self.old course.now }
+        ensures { self.new ≡ stairs_reading_for self.old course.now }
     {
         self.coming = Some(*course);
         self.reading = true;

@@ -5,7 +5,7 @@ ghost use Rattle.pm_host.specs.Image.{held};
 ghost use Rattle.pm_host.specs.Summary.{possible_at};
 ghost use Rattle.pm_rail.specs.Known.{known_word, sole};
 ghost use Rattle.pm_table.specs.Cell.{IsCell};
-ghost use Rattle.pm_stairs.specs.Steps.{back_word, byte_back, noted as spec_noted, step_course, step_of, step_with, to_rest, wish_of as spec_wish_of, wishes_of as spec_wishes_of, words_back as spec_words_back};
+ghost use Rattle.pm_stairs.specs.Steps.{back_word, byte_back, noted as spec_noted, step_course, step_of_words, step_with, to_rest, wish_of as spec_wish_of, wishes_of as spec_wishes_of, words_back as spec_words_back};
 ghost use Rattle.std.specs.Prelude.{None};
 
 use pm_course::{CourseEnd, FrameCourse, Wish, Wishes};
@@ -90,7 +90,7 @@ impl Step {
 impl WordStep {
     /// This step, to be carried out.
     pub fn step(&self) -> Step
-        ensures { result ≡ step_of self.now }
+        ensures { result ≡ step_of_words self.now }
     {
         Step {
             output: self.output,

@@ -4,7 +4,7 @@ ghost use Rattle.std.specs.Prelude.{◌≡◌, ◌<◌};
 ghost use Rattle.std.specs.Prelude.{None};
 ghost use Rattle.pm_host.specs.Image.{held};
 ghost use Rattle.pm_table.specs.Operation.{selected_register};
-ghost use Rattle.pm_stairs.specs.WayBack.{goal_at, lasting as spec_lasting, one_word as spec_one_word, plan_fault as spec_plan_fault, selected_at, way_back_fault as spec_way_back_fault};
+ghost use Rattle.pm_stairs.specs.WayBack.{goal_of_step, lasting as spec_lasting, one_word as spec_one_word, plan_fault as spec_plan_fault, selected_at, way_back_fault as spec_way_back_fault};
 
 use crate::sight::Sight;
 use crate::step::{WordAct, WordStep, known_in};
@@ -71,7 +71,7 @@ fn lasting(fault: PlanFault) -> Option<PlanFault>
 /// The words that a step leads to: of a byte that leaves the output on the word of the register that it selects, if that is known.
 pub fn goal(host: &State, back: &WordStep) -> Option<Wanted>
     requires { back.now.output < 8 }
-    ensures { result ≡ goal_at (held None host.now) back.now.output back.now.act }
+    ensures { result ≡ goal_of_step (held None host.now) back.now.output back.now.act }
 {
     match back.act {
         WordAct::Sets(wanted) => Some(wanted),

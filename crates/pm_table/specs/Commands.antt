@@ -121,8 +121,8 @@ pub record Known : Type 0 where
   pub writes : Bool
 
 -- what is told of a code that stands in the table
-abbrev pub known_of : ℕ → Option Known
-known_of code = option_map (λ l. record {
+abbrev pub known_of_code : ℕ → Option Known
+known_of_code code = option_map (λ l. record {
   name = l.name;
   length = l.length;
   paged = is_paged l.scope;

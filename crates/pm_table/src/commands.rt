@@ -3,7 +3,7 @@
 ghost use Rattle.std.specs.Prelude.{◌≡◌, ◌≤◌, IfSome, true, false};
 ghost use Rattle.std.specs.Option.{option_map};
 ghost use Rattle.pm_table.specs.declared.protection.Protection.TheVariants.{NotWritten};
-ghost use Rattle.pm_table.specs.Commands.{attributes, info_seen, known_of};
+ghost use Rattle.pm_table.specs.Commands.{attributes, info_seen, known_of_code};
 
 use crate::protection::Protection;
 use crate::protection::Protection::{Always, At00, At20, At40, At80};
@@ -205,7 +205,7 @@ pub struct Info {
 /// converter has it; `None` for every other code. Codes and lengths are the standard's; read, write
 /// and scope are this converter's own choice.
 pub fn known(code: Code) -> Option<Info>
-    ensures line { option_map info_seen result ≡ known_of code.0 }
+    ensures line { option_map info_seen result ≡ known_of_code code.0 }
     ensures short { IfSome result (λ line. line.length ≤ 2) }
 {
     match code.attributes() {

@@ -19,7 +19,7 @@ use Rattle.pm_host.specs.Refusals.{IsSetup}
 use Rattle.pm_setup.specs.declared.setup_fault.SetupFault.{SetupFault}
 use Rattle.pm_world.specs.{Laws.LivesAreFollowed, declared.cause.Cause.Cause, declared.cause.Stop.Stop, declared.event.Event.Event}
 use Rattle.pm_world.specs.Life.{AreTakenFrom, after_all, AreTaken, StopsAt, StopsFrom, now, taken_events}
-use Rattle.pm_world.specs.Setup.{setup_fault, setup_of, start}
+use Rattle.pm_world.specs.Setup.{world_fault, setup_of, world_start}
 use Rattle.pm_world.specs.State.{IsTaken, State, cause_of, event_limit, next}
 use Rattle.pm_world.specs.declared.event.Arrival.TheVariants as arrives
 use Rattle.pm_world.specs.declared.event.Back.TheVariants as returns
@@ -28,17 +28,19 @@ use Rattle.pm_lines.specs.{Pairs.pair_of, Streams.max_text, declared.fault.TextF
 use Rattle.pm_lines.specs.Bytes.{byte_before, word_bytes}
 use Rattle.pm_lines.specs.Lines.{Numbered, WordsLeft, lines_of, unskipped_from, words_of}
 use Rattle.pm_lines.specs.declared.fault.TextFault.TheVariants.{Syntax as TextFaultSyntax, TooLong, Setup}
-use Rattle.pm_trace.specs.Lemmas.Floor.{passed, reached}
+use Rattle.pm_trace.specs.Lemmas.Floor.{passed, quotient_is_reached}
 use Rattle.pm_text.specs.{declared.form.Form.Form, declared.replays.ReplayEnd.ReplayEnd, declared.runs.Ran.Ran}
 use Rattle.pm_text.specs.{declared.scenario.Scenario.Scenario, declared.scenario.fault.ScenarioFault.ScenarioFault}
 use Rattle.pm_text.specs.{declared.scenario.fault.ScenarioFault.TheVariants.Syntax, declared.scenario.header.Header.Header}
 use Rattle.pm_text.specs.{declared.scenario.starts.Starts.Starts}
 use Rattle.pm_text.specs.EventLines.{event_line, arrival, back, deliver_rest, exchange_rest, finish_rest}
 use Rattle.pm_text.specs.Kinds.{as_frame, frame_bytes, form_of, version_of}
-use Rattle.pm_text.specs.Readers.{line_as, Field, gives, lines_into, made_into, named, one_of, or_fault, read_on, word, Rest, row}
-use Rattle.pm_text.specs.Replay.{Lives, IsRun, end_by, ran_by, replay_by, replay_of, run_of, stop_after, taken_by, told, told_or}
+use Rattle.pm_text.specs.Readers.{line_as, Field, gives, lines_into, made_into, named, one_of, or_fault, read_on, word, Rest, next_row}
+use Rattle.pm_text.specs.Replay.{Lives, IsScenarioRun, replay_end_by, ran_by, replay_by, replay_of, run_of, stop_after, taken_by}
+use Rattle.pm_text.specs.Replay.{report_and_end, told_or}
 use Rattle.pm_text.specs.Report.{floor_micros, report_text}
-use Rattle.pm_text.specs.ScenarioText.{event_before, events_in, counted, first_eight, outputs_in, start_before, starts_of, as_text_fault}
+use Rattle.pm_text.specs.ScenarioText.{event_before, events_in, output_count_of, first_eight, outputs_in, start_before, starts_of}
+use Rattle.pm_text.specs.ScenarioText.{as_text_fault}
 use Rattle.pm_text.specs.ScenarioText.{header, rest_of, scenario_by, scenario_of, text_fault, with_events}
 
 -- The events of a scenario, one after another.
@@ -187,7 +189,7 @@ unfolding floor_micros
 floor-is value k positive below greatest =
     let a = value.num *ℤ pos (10 ^ 6) in
     let q = int_div_euclid a (pos value.den) in
-    let up : q ≤ℤ k = greatest q (reached a value.den positive) in
+    let up : q ≤ℤ k = greatest q (quotient_is_reached a value.den positive) in
     let next = passed a value.den positive in
     by_lt_z q k (λ less. let over = lt-times q k value.den less in absurd (omega (arith, ints))) (λ down. omega (arith, ints))
 
@@ -325,7 +327,7 @@ pub length-first_eight : (given : List OutputStart) → length (first_eight give
 length-first_eight given = length-take-le 8 (given ++ replicate 8 no_start) (omega (arith, length-append given (replicate 8 no_start)))
 
 -- what is kept of outputs is made of its parts
-pub starts-made : (count : ℕ) (starts given : List OutputStart) → count ≡ counted given → starts ≡ first_eight given
+pub starts-made : (count : ℕ) (starts given : List OutputStart) → count ≡ output_count_of given → starts ≡ first_eight given
     → (let made : Starts = record { count = count; starts = starts } in made ≡ starts_of given)
 starts-made count starts given counts firsts = rw (counts, firsts) refl
 
@@ -424,8 +426,8 @@ taken-length config passes events (Some stop) stops =
 
 -- a run from the start stops at an event that has the cause against it in the world that the events before it left
 stops-at : (config : Config) (passes : ℕ) (events : List Event) (stop : Option Stop)
-    → now config passes (taken_events events stop) ≡ after_all (start config passes) (taken_events events stop)
-    → StopsFrom (start config passes) events stop → StopsAt config passes events stop
+    → now config passes (taken_events events stop) ≡ after_all (world_start config passes) (taken_events events stop)
+    → StopsFrom (world_start config passes) events stop → StopsAt config passes events stop
 stops-at config passes events None same stops = tt
 stops-at config passes events (Some stop) same stops =
     subst (λ s. IsSomeAnd (slice_get events stop.at) (λ event. cause_of s event ≡ Some stop.cause)) (sym same) stops
@@ -478,7 +480,7 @@ module _ (input : List ℕ) (fits : length input ≤ max_text) where
     lines-refused fault is = ap replay_by (scenario-read (Err fault) is)
 
     -- lines without a fault, of which no world is made
-    pub setup-refused : (fault : SetupFault) → IsOk (events_in head.form rest.lines) → Some fault ≡ setup_fault head.config head.passes
+    pub setup-refused : (fault : SetupFault) → IsOk (events_in head.form rest.lines) → Some fault ≡ world_fault head.config head.passes
         → replay_of input ≡ Err (Setup fault)
     unfolding replay_of
     setup-refused fault judged refused = with_events_of (events_in head.form rest.lines) judged refl
@@ -493,9 +495,9 @@ module _ (input : List ℕ) (fits : length input ≤ max_text) where
 
     -- the run of lines whose events came upon the world that they start
     pub run-lived : (law : LivesAreFollowed) (taken : ℕ) (stop : Option Stop) (world : State)
-        → IsSound head.config → IsSetup (setup_of head.config head.passes) → None ≡ setup_fault head.config head.passes
-        → Lives head.form rest.lines (start head.config head.passes) (Ok (taken, stop)) world
-        → IsRun input (record { version = version_of head.form; world = world; taken = taken; stop = stop })
+        → IsSound head.config → IsSetup (setup_of head.config head.passes) → None ≡ world_fault head.config head.passes
+        → Lives head.form rest.lines (world_start head.config head.passes) (Ok (taken, stop)) world
+        → IsScenarioRun input (record { version = version_of head.form; world = world; taken = taken; stop = stop })
     run-lived law taken stop world sound made unrefused lived =
         let c = head.config in
         let p = head.passes in
@@ -516,18 +518,18 @@ module _ (input : List ℕ) (fits : length input ≤ max_text) where
 -- a scenario that was read and run, and the report of its run
 pub record IsTold (input text : List ℕ) (end : ReplayEnd) (scenario : Scenario) (ran : Ran) : Type 0 where
   pub reads : scenario_of input ≡ Ok scenario
-  pub made : None ≡ setup_fault scenario.config scenario.passes
+  pub made : None ≡ world_fault scenario.config scenario.passes
   pub runs : ran ≡ run_of scenario
   pub text_is : text ≡ report_text (form_of ran.version) ran.world ran.taken ran.stop
-  pub end_is : end ≡ end_by ran.stop
+  pub end_is : end ≡ replay_end_by ran.stop
 
 -- which is the input's replay
 pub replay-told : (input text : List ℕ) (end : ReplayEnd) (scenario : Scenario) (ran : Ran) → IsTold input text end scenario ran
     → replay_of input ≡ Ok (text, end)
 unfolding replay_of
 replay-told input text end scenario ran is =
-    let all : Ok (told ran) ≡ Ok (text, end) = λ i. Ok (sym is.text_is i, sym is.end_is i) in
-    ap replay_by is.reads ∙ ap (λ o. told_or o scenario) (sym is.made) ∙ ap (λ r. Ok (told r)) (sym is.runs) ∙ all
+    let all : Ok (report_and_end ran) ≡ Ok (text, end) = λ i. Ok (sym is.text_is i, sym is.end_is i) in
+    ap replay_by is.reads ∙ ap (λ o. told_or o scenario) (sym is.made) ∙ ap (λ r. Ok (report_and_end r)) (sym is.runs) ∙ all
 
 -- ---- texts and faults
 
@@ -537,7 +539,7 @@ no_error scenario is = cc
 
 -- a text with a scenario isn't empty
 pub read-some : (text : List ℕ) (scenario : Scenario) → scenario_of text ≡ Ok scenario → 0 < length text
-unfolding scenario_of row unskipped_from lines_of
+unfolding scenario_of next_row unskipped_from lines_of
 read-some [] scenario is = absurd (no_error scenario is)
 read-some (byte ∷ text) scenario is = omega arith
 

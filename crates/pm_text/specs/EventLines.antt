@@ -16,7 +16,8 @@ use Rattle.pm_world.specs.declared.event.Back.TheVariants as returns
 use Rattle.pm_world.specs.declared.event.Event.{Event}
 use Rattle.pm_world.specs.declared.event.Event.TheVariants.{Deliver, Finish, Exchange, RestartDevice, RestartHost, Reading as Measure}
 use Rattle.pm_lines.specs.Digits.{hex_of, signed_of, small_of}
-use Rattle.pm_text.specs.Kinds.{output_or_device, register_named, device_cell_named, output_reading_named, device_reading_named, cell_word}
+use Rattle.pm_text.specs.Kinds.{output_or_device, register_named_in_form, device_cell_named, output_reading_named, device_reading_named}
+use Rattle.pm_text.specs.Kinds.{cell_word}
 use Rattle.pm_text.specs.Kinds.{frame_bytes}
 use Rattle.pm_text.specs.Readers.{◌>>=◌, Field, field, gives, lines_into, made_into, named, one_of}
 use Rattle.pm_text.specs.declared.form.Form.{Form}
@@ -25,16 +26,16 @@ use Rattle.pm_text.specs.declared.form.Form.TheVariants.{First}
 use Rattle.pm_text.specs.declared.scenario.fault.ScenarioFault.TheVariants.{Syntax, BadHex}
 
 -- `O NAME`, or `- WRITE_PROTECT`
-abbrev pub cell_at : Form → Option ℕ → Field Cell
-cell_at form None = field Syntax device_cell_named
-cell_at form (Some output) = do
-  register ← field Syntax (register_named form)
+abbrev pub cell_field_at : Form → Option ℕ → Field Cell
+cell_field_at form None = field Syntax device_cell_named
+cell_field_at form (Some output) = do
+  register ← field Syntax (register_named_in_form form)
   gives (Out output register)
 
 unfoldable pub cell : Form → Field Cell
 cell form = do
   output ← field Syntax output_or_device
-  cell_at form output
+  cell_field_at form output
 
 -- `O NAME HEX`, or `- WRITE_PROTECT HH`
 unfoldable pub order_rest : Form → Field Job
@@ -47,7 +48,7 @@ order_rest form = do
 unfoldable pub volts_rest : Form → Field Job
 volts_rest form = do
   output ← field Syntax small_of
-  register ← field Syntax (register_named form)
+  register ← field Syntax (register_named_in_form form)
   microvolts ← field Syntax (signed_of 64)
   gives (OrderMicro (Out output register) microvolts)
 
@@ -121,12 +122,12 @@ restart_rest = field Syntax (named ((codes "device", RestartDevice) ∷ (codes "
 
 -- `O NAME HHHH` for a reading of an output, `- NAME HHHH` for one of the device, for which output 0 is named and
 -- isn't looked at
-abbrev pub reading_at : Option ℕ → Field Measured
-reading_at None = do
+abbrev pub reading_field_at : Option ℕ → Field Measured
+reading_field_at None = do
   code ← field Syntax device_reading_named
   word ← field BadHex (hex_of 4)
   gives (record { output = 0; code = record { 0 = code }; word = word })
-reading_at (Some output) = do
+reading_field_at (Some output) = do
   code ← field Syntax output_reading_named
   word ← field BadHex (hex_of 4)
   gives (record { output = output; code = record { 0 = code }; word = word })
@@ -137,7 +138,7 @@ measured_event m = Measure m.output m.code m.word
 unfoldable pub reading_rest : Field Measured
 reading_rest = do
   output ← field Syntax output_or_device
-  reading_at output
+  reading_field_at output
 
 -- the lines of jobs that the first form lacks: `store` and `restore`, with no more words
 abbrev pub store_lines : Form → List (List ℕ × Field Job)

@@ -48,8 +48,8 @@ registers_of Second = registers
 abbrev pub with_name : Reg → List ℕ × Reg
 with_name register = (name_of (register_code register), register)
 
-abbrev pub register_named : Form → List ℕ → Option Reg
-register_named form = named (map with_name (registers_of form))
+abbrev pub register_named_in_form : Form → List ℕ → Option Reg
+register_named_in_form form = named (map with_name (registers_of form))
 
 -- the device's own cell
 abbrev pub device_cell_named : List ℕ → Option Cell

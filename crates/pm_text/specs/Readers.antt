@@ -48,13 +48,13 @@ IsRead (Err fault) x read = read ≡ Err fault
 abbrev pub Field : Type 0 → Type 0
 Field = Reading WordsLeft
 
-abbrev pub first_word : ℕ → List (List ℕ) → Result (List ℕ × WordsLeft) ScenarioFault
-first_word line [] = Err (Syntax line)
-first_word line (text ∷ words) = Ok (text, record { line = line; words = words })
+abbrev pub word_or_fault : ℕ → List (List ℕ) → Result (List ℕ × WordsLeft) ScenarioFault
+word_or_fault line [] = Err (Syntax line)
+word_or_fault line (text ∷ words) = Ok (text, record { line = line; words = words })
 
 -- the next word; X1 if the line has no more
 unfoldable pub word : Field (List ℕ)
-word left = first_word left.line left.words
+word left = word_or_fault left.line left.words
 
 -- the next word, if there is one, isn't this
 abbrev pub IsNotNext : List ℕ → WordsLeft → Type 0
@@ -115,20 +115,20 @@ pub record Rest : Type 0 where
 abbrev pub Part : Type 0 → Type 0
 Part = Reading Rest
 
-abbrev pub first_line : ℕ → List Numbered → Result (Numbered × Rest) ScenarioFault
-first_line count [] = Err (Syntax (count + 1))
-first_line count (line ∷ lines) = Ok (line, record { count = count; lines = lines })
+abbrev pub line_or_fault : ℕ → List Numbered → Result (Numbered × Rest) ScenarioFault
+line_or_fault count [] = Err (Syntax (count + 1))
+line_or_fault count (line ∷ lines) = Ok (line, record { count = count; lines = lines })
 
 -- the next line; a missing line is X1 with the number after the last
-unfoldable pub row : Part Numbered
-row rest = first_line rest.count rest.lines
+unfoldable pub next_row : Part Numbered
+next_row rest = line_or_fault rest.count rest.lines
 
 abbrev pub kept_rest : {A : Type 0} → Result A ScenarioFault → Rest → Result (A × Rest) ScenarioFault
 kept_rest (Ok x) rest = Ok (x, rest)
 kept_rest (Err fault) rest = Err fault
 
 -- the next line, read whole
-abbrev pub line : {A : Type 0} → Field A → Part A
-line read = do
-  numbered ← row
+abbrev pub whole_line : {A : Type 0} → Field A → Part A
+whole_line read = do
+  numbered ← next_row
   λ rest. kept_rest (line_as read numbered) rest

@@ -2,7 +2,7 @@
 use Rattle.std.specs.Prelude.{⊤, ◌≡◌, ℕ, List, [], ◌∷◌, length, Option, Some, None, Result, Ok, Err}
 use Rattle.pm_device.specs.declared.config.Config.{Config}
 use Rattle.pm_world.specs.Life.{AreTakenFrom, StopsFrom, after_all, now, taken_events}
-use Rattle.pm_world.specs.Setup.{setup_fault}
+use Rattle.pm_world.specs.Setup.{world_fault}
 use Rattle.pm_world.specs.State.{State, cause_of}
 use Rattle.pm_world.specs.declared.event.Event.{Event}
 use Rattle.pm_world.specs.declared.cause.Cause.{Cause}
@@ -75,31 +75,31 @@ Lives form lines old (Err fault) new = events_in form lines ≡ Err fault
 -- ---- the replay of a text
 
 -- a replay is stopped if its run is
-abbrev pub end_by : Option Stop → ReplayEnd
-end_by None = AllTaken
-end_by (Some stop) = Stopped
+abbrev pub replay_end_by : Option Stop → ReplayEnd
+replay_end_by None = AllTaken
+replay_end_by (Some stop) = Stopped
 
 -- the report of a run by its version, and how the replay ended
-abbrev pub told : Ran → List ℕ × ReplayEnd
-told ran = (report_text (form_of ran.version) ran.world ran.taken ran.stop, end_by ran.stop)
+abbrev pub report_and_end : Ran → List ℕ × ReplayEnd
+report_and_end ran = (report_text (form_of ran.version) ran.world ran.taken ran.stop, replay_end_by ran.stop)
 
 -- no world is made, or the run of the scenario is reported
 abbrev pub told_or : Option SetupFault → Scenario → Result (List ℕ × ReplayEnd) TextFault
 told_or (Some fault) scenario = Err (Setup fault)
-told_or None scenario = Ok (told (run_of scenario))
+told_or None scenario = Ok (report_and_end (run_of scenario))
 
 abbrev pub replay_by : Result Scenario TextFault → Result (List ℕ × ReplayEnd) TextFault
 replay_by (Err fault) = Err fault
-replay_by (Ok scenario) = told_or (setup_fault scenario.config scenario.passes) scenario
+replay_by (Ok scenario) = told_or (world_fault scenario.config scenario.passes) scenario
 
 -- the report of what the input's scenario results in, or the first fault
 unfoldable pub replay_of : List ℕ → Result (List ℕ × ReplayEnd) TextFault
 replay_of input = replay_by (scenario_of input)
 
 -- this is the run of the input's scenario, of which a world is made
-abbrev pub IsRun : List ℕ → Ran → Type 0
-IsRun input ran = (scenario : Scenario) × (scenario_of input ≡ Ok scenario)
-    × (setup_fault scenario.config scenario.passes ≡ None) × (ran ≡ run_of scenario)
+abbrev pub IsScenarioRun : List ℕ → Ran → Type 0
+IsScenarioRun input ran = (scenario : Scenario) × (scenario_of input ≡ Ok scenario)
+    × (world_fault scenario.config scenario.passes ≡ None) × (ran ≡ run_of scenario)
 
 -- the faults of a text that is run as it is read, which takes no memory
 abbrev pub IsOfRun : TextFault → Type 0

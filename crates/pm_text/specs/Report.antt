@@ -13,7 +13,7 @@ use Rattle.pm_table.specs.Cell.{cell_name, is_voltage_cell}
 use Rattle.pm_model.specs.Commanded.{commanded}
 use Rattle.pm_model.specs.Settings.{word_at}
 use Rattle.pm_device.specs.Held.{value_for}
-use Rattle.pm_device.specs.Status.{is_on, status_byte, status_cml, status_vout, status_word}
+use Rattle.pm_device.specs.Status.{is_output_on, status_byte_of, status_cml_of, status_vout_of, status_word_of}
 use Rattle.pm_host.specs.Summary.{possible_at, standing_at}
 use Rattle.pm_host.specs.declared.knowledge.Possible.{Possible}
 use Rattle.pm_host.specs.declared.knowledge.Possible.TheVariants.{Any, Words}
@@ -32,17 +32,17 @@ use Rattle.pm_text.specs.declared.form.Form.TheVariants.{First}
 -- ---- words
 
 -- a cell's word with its digits: a voltage has four, any other is a byte, the low one of its word
-abbrev pub cell_text : Cell → ℕ → List ℕ
-cell_text cell word = if is_voltage_cell cell then hex_word word else hex_byte (word % 256)
+abbrev pub cell_word_text : Cell → ℕ → List ℕ
+cell_word_text cell word = if is_voltage_cell cell then hex_word word else hex_byte (word % 256)
 
 -- what the host says of a cell
 abbrev pub standing_text : Cell → Standing → List ℕ
-standing_text cell (Confirmed word) = codes "confirmed " ++ cell_text cell word
+standing_text cell (Confirmed word) = codes "confirmed " ++ cell_word_text cell word
 standing_text cell Unknown = codes "unknown"
 
 -- words of a cell, a space before each
 abbrev pub spaced_words : Cell → List ℕ → List ℕ
-spaced_words cell words = flat_map (λ word. codes " " ++ cell_text cell word) words
+spaced_words cell words = flat_map (λ word. codes " " ++ cell_word_text cell word) words
 
 -- the words that a cell may hold
 abbrev pub possible_text : Cell → Possible → List ℕ
@@ -50,16 +50,16 @@ possible_text cell Any = codes " any"
 possible_text cell (Words words) = spaced_words cell words.items
 
 -- what texts of a form tell of a cell: each but the first says of a cell that isn't confirmed what it may hold
-abbrev pub said_text : Form → Cell → Standing → Possible → List ℕ
-said_text First cell standing possible = standing_text cell standing
-said_text _ cell (Confirmed word) possible = standing_text cell (Confirmed word)
-said_text _ cell Unknown possible =
+abbrev pub cell_said_text : Form → Cell → Standing → Possible → List ℕ
+cell_said_text First cell standing possible = standing_text cell standing
+cell_said_text _ cell (Confirmed word) possible = standing_text cell (Confirmed word)
+cell_said_text _ cell Unknown possible =
     standing_text cell Unknown ++ (codes " possible" ++ possible_text cell possible)
 
 -- a setting: its name, the converter's word, and what the host says
 unfoldable pub setting_line : Form → State → List ℕ → Cell → List ℕ
-setting_line form s name cell = name ++ (codes " " ++ (cell_text cell (word_at s.device.words cell)
-    ++ (codes " host " ++ (said_text form cell (standing_at s.host cell) (possible_at s.host cell)
+setting_line form s name cell = name ++ (codes " " ++ (cell_word_text cell (word_at s.device.words cell)
+    ++ (codes " host " ++ (cell_said_text form cell (standing_at s.host cell) (possible_at s.host cell)
     ++ codes "\n"))))
 
 -- ---- an output
@@ -86,14 +86,14 @@ commanded_line output is_on voltage =
     output_head output is_on ++ (codes " commanded " ++ (voltage_text voltage ++ codes "\n"))
 
 abbrev pub output_line : State → ℕ → List ℕ
-output_line s output = commanded_line output (is_on s.device output)
+output_line s output = commanded_line output (is_output_on s.device output)
     (commanded (value_for s.device.config output) s.device.words output)
 
 -- STATUS_BYTE, STATUS_WORD and STATUS_VOUT
 unfoldable pub status_line : State → ℕ → List ℕ
-status_line s output = codes "status " ++ (hex_byte (status_byte s.device output)
-    ++ (codes " " ++ (hex_word (status_word s.device output)
-    ++ (codes " " ++ (hex_byte (status_vout s.device output) ++ codes "\n")))))
+status_line s output = codes "status " ++ (hex_byte (status_byte_of s.device output)
+    ++ (codes " " ++ (hex_word (status_word_of s.device output)
+    ++ (codes " " ++ (hex_byte (status_vout_of s.device output) ++ codes "\n")))))
 
 abbrev pub register_line : Form → State → ℕ → Reg → List ℕ
 register_line form s output register =
@@ -114,13 +114,13 @@ all_outputs form s = flat_map (output_lines form s) (range_with_len 0 s.device.c
 -- ---- the first line, and the last ones
 
 -- how many events were taken, and why the next one wasn't
-abbrev pub first_line : ℕ → Option Stop → List ℕ
-first_line taken None = codes "ran " ++ (decimal taken ++ codes "\n")
-first_line taken (Some stop) =
+abbrev pub ran_line : ℕ → Option Stop → List ℕ
+ran_line taken None = codes "ran " ++ (decimal taken ++ codes "\n")
+ran_line taken (Some stop) =
     codes "stopped " ++ (decimal stop.at ++ (codes " " ++ (cause_text stop.cause ++ codes "\n")))
 
 unfoldable pub cml_line : State → List ℕ
-cml_line s = codes "cml " ++ (hex_byte (status_cml s.device) ++ codes "\n")
+cml_line s = codes "cml " ++ (hex_byte (status_cml_of s.device) ++ codes "\n")
 
 unfoldable pub seen_line : Bool → List ℕ
 seen_line seen = if seen then codes "restart seen yes\n" else codes "restart seen no\n"
@@ -136,15 +136,15 @@ abbrev pub job_text : Bool → Option JobEnd → List ℕ
 job_text is_open None = if is_open then codes "pending" else codes "none"
 job_text is_open (Some end) = if is_open then codes "pending" else end_text end
 
-unfoldable pub job_line : State → List ℕ
-job_line s = codes "job " ++ (job_text (is_some s.host.stage) s.end ++ codes "\n")
+unfoldable pub job_report_line : State → List ℕ
+job_report_line s = codes "job " ++ (job_text (is_some s.host.stage) s.end ++ codes "\n")
 
 -- ---- the whole
 
 -- the lines that follow the first one
 unfoldable pub world_lines : Form → State → List ℕ
 world_lines form s = setting_line form s (codes "protect") Protect
-    ++ (all_outputs form s ++ (cml_line s ++ (seen_line s.host.known.seen ++ job_line s)))
+    ++ (all_outputs form s ++ (cml_line s ++ (seen_line s.host.known.seen ++ job_report_line s)))
 
 unfoldable pub report_text : Form → State → ℕ → Option Stop → List ℕ
-report_text form s taken stop = first_line taken stop ++ world_lines form s
+report_text form s taken stop = ran_line taken stop ++ world_lines form s

@@ -10,7 +10,7 @@ use Rattle.pm_table.specs.declared.coefficients.Coefficients.{Coefficients}
 use Rattle.pm_table.specs.VoutMode.{mode_of}
 use Rattle.pm_device.specs.declared.config.Config.{Config}
 use Rattle.pm_device.specs.declared.output_start.OutputStart.{OutputStart}
-use Rattle.pm_device.specs.Start.{is_direct, no_start, start_of}
+use Rattle.pm_device.specs.Start.{is_direct, no_start, start_with_words}
 use Rattle.pm_world.specs.declared.event.Event.{Event}
 use Rattle.pm_lines.specs.Digits.{hex_of, signed_of, small_of}
 use Rattle.pm_lines.specs.Lines.{Numbered, lines_of, unskipped_from}
@@ -19,7 +19,7 @@ use Rattle.pm_lines.specs.declared.fault.TextFault.TheVariants as text
 use Rattle.pm_lines.specs.Streams.{max_text}
 use Rattle.pm_text.specs.EventLines.{event_line}
 use Rattle.pm_text.specs.Kinds.{cell_word, form_named, is_word, registers_of, version_of}
-use Rattle.pm_text.specs.Readers.{◌>>=◌, Field, Part, Rest, field, gives, line, line_as, one_of}
+use Rattle.pm_text.specs.Readers.{◌>>=◌, Field, Part, Rest, field, gives, whole_line, line_as, one_of}
 use Rattle.pm_text.specs.declared.form.Form.{Form}
 use Rattle.pm_text.specs.declared.scenario.fault.ScenarioFault.{ScenarioFault}
 use Rattle.pm_text.specs.declared.scenario.fault.ScenarioFault.TheVariants as fault
@@ -69,18 +69,18 @@ lowest_word mode c = if is_direct (mode_of mode) then direct_least c.m else 0x00
 
 -- The words of an output's registers: those of these registers are read, each at its number, and the others
 -- stay.
-abbrev pub start_words : List Reg → List ℕ → Field (List ℕ)
-start_words [] words = gives words
-start_words (register ∷ registers) words = do
+abbrev pub start_words_field : List Reg → List ℕ → Field (List ℕ)
+start_words_field [] words = gives words
+start_words_field (register ∷ registers) words = do
   word ← field fault.BadHex (cell_word (Out 0 register))
-  start_words registers (slice_set words (register_number register) word)
+  start_words_field registers (slice_set words (register_number register) word)
 
 -- MODE, a byte, and a word for each register that the form names
 unfoldable pub output_rest : Form → Coefficients → Field OutputStart
 output_rest form c = do
   mode ← field fault.BadHex (hex_of 2)
-  words ← start_words (registers_of form) (replicate register_count (lowest_word mode c))
-  gives (start_of mode (λ register. slice_index words (register_number register)))
+  words ← start_words_field (registers_of form) (replicate register_count (lowest_word mode c))
+  gives (start_with_words mode (λ register. slice_index words (register_number register)))
 
 abbrev pub some_start : Form → Coefficients → Field (Option OutputStart)
 some_start form c = do
@@ -88,8 +88,8 @@ some_start form c = do
   gives (Some start)
 
 -- `output ..`, or `begin`: None
-unfoldable pub output_line : Form → Coefficients → Field (Option OutputStart)
-output_line form c = one_of ((codes "output", some_start form c) ∷ (codes "begin", gives None) ∷ [])
+unfoldable pub output_start_line : Form → Coefficients → Field (Option OutputStart)
+output_start_line form c = one_of ((codes "output", some_start form c) ∷ (codes "begin", gives None) ∷ [])
 
 -- ---- the outputs and the events
 
@@ -108,8 +108,8 @@ outputs_in output count (line ∷ lines) =
     start_before (line_as output line) (outputs_in output count lines)
     (record { count = count; lines = lines })
 
-unfoldable pub outputs : Form → Coefficients → Part (List OutputStart)
-outputs form c rest = outputs_in (output_line form c) rest.count rest.lines
+unfoldable pub output_starts : Form → Coefficients → Part (List OutputStart)
+output_starts form c rest = outputs_in (output_start_line form c) rest.count rest.lines
 
 -- an event, and those of the lines that follow it, or the first fault
 abbrev pub event_before : Result Event ScenarioFault → Result (List Event) ScenarioFault → Result (List Event) ScenarioFault
@@ -130,8 +130,8 @@ Judges form lines (Err fault) = events_in form lines ≡ Err fault
 -- ---- the whole
 
 -- how many outputs there are, of which more than 255 count as 255
-abbrev pub counted : List OutputStart → ℕ
-counted starts = min (length starts) 255
+abbrev pub output_count_of : List OutputStart → ℕ
+output_count_of starts = min (length starts) 255
 
 -- the first eight outputs
 abbrev pub first_eight : List OutputStart → List OutputStart
@@ -139,14 +139,14 @@ first_eight starts = take 8 (starts ++ replicate 8 no_start)
 
 -- what is kept of the outputs while they are read
 abbrev pub starts_of : List OutputStart → Starts
-starts_of starts = record { count = counted starts; starts = first_eight starts }
+starts_of starts = record { count = output_count_of starts; starts = first_eight starts }
 
 -- The configuration has as many outputs as there are lines `output`. It has room for eight: the
 -- fields of further lines are read, and dropped.
 unfoldable pub config_of : ℕ → ℕ → Coefficients → List OutputStart → Config
 config_of address protect coefficients starts = record {
   addr = address;
-  count = counted starts;
+  count = output_count_of starts;
   starts = first_eight starts;
   protect = protect;
   coefficients = coefficients;
@@ -155,12 +155,12 @@ config_of address protect coefficients starts = record {
 -- what stands before the events
 abbrev pub header : Part Header
 header = do
-  form ← line form_line
-  address ← line address_line
-  passes ← line passes_line
-  protect ← line protect_line
-  coefficients ← line coefficients_line
-  starts ← outputs form coefficients
+  form ← whole_line form_line
+  address ← whole_line address_line
+  passes ← whole_line passes_line
+  protect ← whole_line protect_line
+  coefficients ← whole_line coefficients_line
+  starts ← output_starts form coefficients
   gives (record {
     form = form;
     config = config_of address protect coefficients starts;
@@ -203,8 +203,8 @@ abbrev pub config_in : Result (Header × Rest) ScenarioFault → Result Config S
 config_in (Err first) = Err first
 config_in (Ok got) = Ok got.0.config
 
-unfoldable pub setup_of : List ℕ → Result Config TextFault
-setup_of bytes = if nat_lt max_text (length bytes) then Err text.TooLong
+unfoldable pub config_of_text : List ℕ → Result Config TextFault
+config_of_text bytes = if nat_lt max_text (length bytes) then Err text.TooLong
     else as_text_fault (config_in (header (rest_of bytes)))
 
 -- there is a first line, and it is an event line

@@ -1,11 +1,11 @@
 //! Scenarios from a reader, and the report of what they come to, to a writer.
 ghost use Rattle.std.specs.Prelude.{◌≡◌, ◌⊎◌, ◌<◌, ◌≤◌, length, Err, IfOk, IfErr, IsErrOf, IsFalse, string_bytes};
 ghost use Rattle.std.specs.Result.{result_err};
-ghost use Rattle.pm_world.specs.Setup.{setup_fault};
+ghost use Rattle.pm_world.specs.Setup.{world_fault};
 ghost use Rattle.pm_lines.specs.Engine.{EngineEnds, over};
 ghost use Rattle.pm_lines.specs.Faults.{IsOfInput};
 ghost use Rattle.pm_lines.specs.Streams.{max_text};
-ghost use Rattle.pm_text.specs.Replay.{IsReplay, end_by, replay_of, replaying, run_of as run_spec, taken_by};
+ghost use Rattle.pm_text.specs.Replay.{IsReplay, replay_end_by, replay_of, replaying, run_of as run_spec, taken_by};
 
 use crate::report::render_report;
 use crate::runs::run_text;
@@ -68,7 +68,7 @@ fn report_on(alloc: Global, input: &[u8]) -> Result<(String, ReplayEnd), TextFau
 
 // How a replay ends that stops so.
 fn end_of(stop: &Option<Stop>) -> ReplayEnd
-    ensures { result ≡ end_by stop.now }
+    ensures { result ≡ replay_end_by stop.now }
 {
     match stop {
         Some(_) => ReplayEnd::Stopped,

@@ -2,7 +2,7 @@
 ghost use Rattle.std.specs.Prelude.{◌≡◌, ◌++◌, IfOk, IfErr, OnOk, codes, is_some, string_bytes};
 ghost use Rattle.pm_world.specs.FaultWords.{cause_text};
 ghost use Rattle.pm_text.specs.Kinds.{form_of};
-ghost use Rattle.pm_text.specs.Report.{cml_line, first_line, job_line, job_text, report_text, seen_line, world_lines};
+ghost use Rattle.pm_text.specs.Report.{cml_line, ran_line, job_report_line, job_text, report_text, seen_line, world_lines};
 
 pub(crate) mod outputs;
 mod settings;
@@ -55,7 +55,7 @@ fn push_report(text: &mut String, form: Form, run: &Ran) -> Result<(), AllocErro
 #[tactic(auto, using(pm_lines::specs::Lemmas::Joins::joins))]
 fn push_first_line(text: &mut String, taken: u64, stop: &Option<Stop>) -> Result<(), AllocError>
     ensures { OnOk result (string_bytes text.new
-        ≡ string_bytes text.old ++ first_line taken stop.now) }
+        ≡ string_bytes text.old ++ ran_line taken stop.now) }
 {
     match stop {
         None => {
@@ -121,9 +121,9 @@ fn push_cml(text: &mut String, world: &World) -> Result<(), AllocError>
 }
 
 // The open job, or how the last one ended.
-#[tactic(auto, using(pm_lines::specs::Lemmas::Joins::joins), unfolding(crate::specs::Report::job_line))]
+#[tactic(auto, using(pm_lines::specs::Lemmas::Joins::joins), unfolding(crate::specs::Report::job_report_line))]
 fn push_job(text: &mut String, world: &World) -> Result<(), AllocError>
-    ensures { OnOk result (string_bytes text.new ≡ string_bytes text.old ++ job_line world.now) }
+    ensures { OnOk result (string_bytes text.new ≡ string_bytes text.old ++ job_report_line world.now) }
 {
     text.push_str("job ")?;
     push_job_words(text, world.host().sending().is_some(), world.last_end())?;

@@ -3,7 +3,7 @@ ghost use Rattle.pm_text.specs.EventLines as spec;
 ghost use Rattle.std.specs.Prelude.{◌≡◌, ◌≤◌, length, Err, IfOk, IfErr};
 ghost use Rattle.pm_lines.specs.Streams.{max_text};
 ghost use Rattle.pm_text.specs.Readers.{IsRead, line_as};
-ghost use Rattle.pm_text.specs.Replay.{IsOfRun, IsRun, Lives, replay_of};
+ghost use Rattle.pm_text.specs.Replay.{IsOfRun, IsScenarioRun, Lives, replay_of};
 ghost use Rattle.pm_text.specs.ScenarioText.{Judges};
 
 use crate::form::Form;
@@ -31,7 +31,7 @@ pub struct Ran {
 /// What the events of a text's scenario come to, or the text's first fault, or why no world is made.
 pub(crate) fn run_text(text: &[u8]) -> Result<Ran, TextFault>
     requires { length text.now ≤ max_text }
-    ensures ran { IfOk result (λ ran. IsRun text.now ran) }
+    ensures ran { IfOk result (λ ran. IsScenarioRun text.now ran) }
     ensures fault { IfErr result (λ fault. replay_of text.now ≡ Err fault) }
     ensures faults { IfErr result IsOfRun }
 {

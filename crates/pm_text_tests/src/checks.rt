@@ -24,6 +24,15 @@ pub(crate) fn printed(
     format!(in alloc; "{value}{more}")
 }
 
+/// The words of a command line, `pmb` and these.
+pub(crate) fn words_of<'a>(alloc: Global, words: &'a str) -> Result<Vec<&'a str>, AllocError> {
+    let mut all = vec![in alloc; "pmb"; 1]?;
+    for word in words.split(' ') {
+        all.push(word)?;
+    }
+    Ok(all)
+}
+
 /// Fails if what is found isn't what is expected, and says both and which row it was.
 pub(crate) fn equal<T: PartialEq + Debug>(rt: &impl Abort, found: &T, wanted: &T, at: &impl Debug) {
     is_true(rt, found == wanted, &(found, wanted, at));

@@ -45,12 +45,8 @@ fn number_is_chosen_with_its_texts(rt: HostRuntime) -> Result<(), Fail> {
         word: None,
         micro: Some("-3300000"),
     };
-    let words = [
-        "pmb",
-        "number",
-        "--micro=-3300000",
-        "--format=ulinear16:-12",
-    ];
+    #[rattlefmt::skip]
+    let words = ["pmb", "number", "--micro=-3300000", "--format=ulinear16:-12"];
     is_chosen(&rt, &words, micro)?;
     // Without `=`, and with neither a format nor a micro.
     let alone = Chosen::Number {

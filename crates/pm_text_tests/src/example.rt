@@ -84,12 +84,9 @@ fn the_examples_of_the_roots_run(rt: HostRuntime) -> Result<(), Fail> {
 
     let (output, errors) = (blank_paper(rt.alloc(), 64), blank_paper(rt.alloc(), 64));
     let (status, paper) = number(rt.alloc(), output, errors);
-    equal(&rt, &status, &0, &3);
-    equal(
-        &rt,
-        &paper.taken.as_slice(),
-        &b"word 87FF value -1/65536 micro -16\n".as_slice(),
-        &4,
-    );
+    compare! { &rt;
+        3, status => 0;
+        4, paper.taken.as_slice() => b"word 87FF value -1/65536 micro -16\n".as_slice();
+    }
     Ok(())
 }

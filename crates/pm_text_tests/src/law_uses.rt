@@ -4,10 +4,10 @@ ghost use Rattle.pm_decode.specs.CaptureText.{capture_text};
 ghost use Rattle.pm_decode.specs.Options.{plain_options};
 ghost use Rattle.pm_limits.specs.Part.{has_register};
 ghost use Rattle.pm_limits.specs.declared.part_registers.PartRegisters.{PartRegisters};
-ghost use Rattle.pm_lines.specs.Engine.{IsSettled, outcome_of};
+ghost use Rattle.pm_lines.specs.Engine.{IsSettled, engine_outcome};
 ghost use Rattle.pm_log.specs.Checks.{Accepts};
 ghost use Rattle.pm_log.specs.Lacks.{part_at};
-ghost use Rattle.pm_log.specs.Laws.{IsTrusted, TextLines, are_lacking, known_of, log_of_lines};
+ghost use Rattle.pm_log.specs.Laws.{IsTrusted, TextLines, are_lacking, known_of_lines, log_of_lines};
 ghost use Rattle.pm_log.specs.Logs.{Known};
 ghost use Rattle.pm_log.specs.Texts.{log_of};
 ghost use Rattle.pm_log.specs.declared.claim.Claim.{Claim};
@@ -51,7 +51,7 @@ pub fn a_replay_of_a_text<R: Read, W: Write>(
 ) -> Result<ReplayEnd, TextFault>
     requires reader { IsFalse reader.old.failed }
     requires writer { IsFalse writer.old.failed }
-    ensures { IsSettled result → IfSome (R.remaining reader.old.inner) (λ input. result ≡ outcome_of replaying input) }
+    ensures { IsSettled result → IfSome (R.remaining reader.old.inner) (λ input. result ≡ engine_outcome replaying input) }
 {
     ends_follow_the_input::<R, W, ReplayEnd>();
     replay(alloc, reader, writer)
@@ -106,11 +106,11 @@ pub fn a_log_that_is_accepted(text: &[u8])
     ensures lines { (allowed : List PartRegisters) (known : Known) → log_of allowed text.now ≡ Ok known →
         TextLines allowed text.now known }
     ensures claims { (allowed : List PartRegisters) (later before : List LogLine) (claim : Claim) (known : Known) →
-        known_of allowed (later ++ Claimed claim ∷ before) ≡ Ok known →
+        known_of_lines allowed (later ++ Claimed claim ∷ before) ≡ Ok known →
         IsSomeAnd (log_of_lines before) (λ log. Accepts log.setup (reverse log.acts) (claim ∷ [])
         × IsTrusted allowed log.setup.addr before claim) }
     ensures lacking { (allowed : List PartRegisters) (lines : List LogLine) (known : Known) (addr : ℕ) (register : Reg) →
-        known_of allowed lines ≡ Ok known →
+        known_of_lines allowed lines ≡ Ok known →
         has_register (part_at known.without addr) register ≡ not (are_lacking addr register lines) }
 {
     logs_are_checked();

@@ -6,6 +6,25 @@
 //! never end or take no memory; the three engines from a reader to a writer as one call (`Engines`); and the worked texts.
 #![tactic(auto)]
 
+/// What is found and what is wanted, in rows: each at a place of its own, as `1, found => wanted;`, or all at the one of the head.
+#[cfg(test)]
+macro_rules! compare {
+    ($rt:expr; $($at:expr, $found:expr => $wanted:expr);+ $(;)?) => {
+        $(crate::checks::equal($rt, &$found, &$wanted, &$at);)+
+    };
+    ($rt:expr, $at:expr; $($found:expr => $wanted:expr);+ $(;)?) => {
+        $(crate::checks::equal($rt, &$found, &$wanted, &$at);)+
+    };
+}
+
+/// A struct with these fields, whose others are those of another one: `with! { Part, PART; silent: true }`.
+#[cfg(test)]
+macro_rules! with {
+    ($type:ident, $base:expr; $($field:ident $(: $value:expr)?),+) => {
+        $type { $($field $(: $value)?,)+ ..$base }
+    };
+}
+
 #[cfg(test)]
 mod captures;
 #[cfg(test)]

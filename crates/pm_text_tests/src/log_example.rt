@@ -41,10 +41,5 @@ fn the_example_of_a_text_runs(rt: HostRuntime) {
         Ok(text) => text,
         Err(_) => Vec::new(alloc),
     };
-    equal(
-        &rt,
-        &text.as_slice(),
-        &b"accepted: 1 claim, 1 transfer\n".as_slice(),
-        &1,
-    );
+    compare! { &rt, 1; text.as_slice() => b"accepted: 1 claim, 1 transfer\n".as_slice() }
 }

@@ -78,10 +78,7 @@ fn an_order_in_microvolts_wants_the_format(rt: HostRuntime) {
         fault: ActFault::Refused(HostFault::FormatUnknown),
     };
     equal(&rt, &judged(&[order]), &Err(fault), &1);
-    let learned = [
-        Act::Begun(Job::Learn(0)),
-        Act::Sent(&MODE.0, Told::Got(&MODE.1)),
-        order,
-    ];
+    #[rattlefmt::skip]
+    let learned = [Act::Begun(Job::Learn(0)), Act::Sent(&MODE.0, Told::Got(&MODE.1)), order];
     equal(&rt, &judged(&learned), &Ok(()), &2);
 }

@@ -22,52 +22,19 @@ fn is_heard(rt: &(impl Abort + AllocGlobal), text: &[u8], written: (usize, &str,
 }
 
 /// Long texts of frames, and what is printed of them.
+#[rattlefmt::skip]
 static LONG_FRAMES: [(Long, (usize, &str, &str)); 8] = [
-    (
-        (["", ""], "11", 524_288, ""),
-        (3, "silent\noutput 0", OUTPUTS),
-    ),
-    (
-        (["", ""], "11 ", 349_525, ""),
-        (3, "silent\noutput 0", OUTPUTS),
-    ),
-    (
-        (["", ""], "\n", 1_048_575, "/"),
-        (3, "silent\noutput 0", OUTPUTS),
-    ),
-    (
-        (["B099", ""], "00", 300_000, ""),
-        (3, "refused K1 Frame F5 WrongPec 300001\n", OUTPUTS),
-    ),
-    (
-        (["", ""], "/\n", 524_288, ""),
-        (524_290, "silent\nsilent\n", OUTPUTS),
-    ),
-    (
-        (["", ""], "B0\n", 349_525, ""),
-        (
-            349_527,
-            "refused K1 Frame F2 Short 1\nrefused K1 Frame F2 Short 1\n",
-            OUTPUTS,
-        ),
-    ),
-    (
-        (["", ""], "B0 20 /\n", 131_072, ""),
-        (131_074, "answer B1 14 ED\nanswer B1 14 ED\n", OUTPUTS),
-    ),
-    (
-        (["", ""], "restart\n", 131_072, ""),
-        (131_074, "restarted\nrestarted\n", OUTPUTS),
-    ),
+    ((["", ""], "11", 524_288, ""), (3, "silent\noutput 0", OUTPUTS)),
+    ((["", ""], "11 ", 349_525, ""), (3, "silent\noutput 0", OUTPUTS)),
+    ((["", ""], "\n", 1_048_575, "/"), (3, "silent\noutput 0", OUTPUTS)),
+    ((["B099", ""], "00", 300_000, ""), (3, "refused K1 Frame F5 WrongPec 300001\n", OUTPUTS)),
+    ((["", ""], "/\n", 524_288, ""), (524_290, "silent\nsilent\n", OUTPUTS)),
+    ((["", ""], "B0\n", 349_525, ""),
+        (349_527, "refused K1 Frame F2 Short 1\nrefused K1 Frame F2 Short 1\n", OUTPUTS)),
+    ((["", ""], "B0 20 /\n", 131_072, ""),
+        (131_074, "answer B1 14 ED\nanswer B1 14 ED\n", OUTPUTS)),
+    ((["", ""], "restart\n", 131_072, ""), (131_074, "restarted\nrestarted\n", OUTPUTS)),
 ];
-
-#[test]
-fn long_texts_are_heard(rt: HostRuntime) -> Result<(), Fail> {
-    for &(long, written) in &LONG_FRAMES {
-        is_heard(&rt, &text_of(rt.alloc(), long)?, written);
-    }
-    Ok(())
-}
 
 // `hear` refuses a text for this, and writes nothing.
 fn is_not_heard(rt: &(impl Abort + AllocGlobal), text: &[u8], fault: TextFault) {
@@ -77,20 +44,20 @@ fn is_not_heard(rt: &(impl Abort + AllocGlobal), text: &[u8], fault: TextFault) 
 }
 
 /// Long texts whose last line is faulty.
+#[rattlefmt::skip]
 static FAULTY_AT_THE_END: [(Long, TextFault); 3] = [
-    (
-        (["", ""], "\n", 1_048_575, "Z"),
-        TextFault::BadHex(1_048_576),
-    ),
-    (
-        (["", ""], "#\n", 300_000, "/ /"),
-        TextFault::Syntax(300_001),
-    ),
-    (
-        (["", ""], " \n", 300_000, "restart /"),
-        TextFault::Syntax(300_001),
-    ),
+    ((["", ""], "\n", 1_048_575, "Z"), TextFault::BadHex(1_048_576)),
+    ((["", ""], "#\n", 300_000, "/ /"), TextFault::Syntax(300_001)),
+    ((["", ""], " \n", 300_000, "restart /"), TextFault::Syntax(300_001)),
 ];
+
+#[test]
+fn long_texts_are_heard(rt: HostRuntime) -> Result<(), Fail> {
+    for &(long, written) in &LONG_FRAMES {
+        is_heard(&rt, &text_of(rt.alloc(), long)?, written);
+    }
+    Ok(())
+}
 
 #[test]
 fn a_faulty_line_at_the_end_of_a_long_text_is_told(rt: HostRuntime) -> Result<(), Fail> {
@@ -127,14 +94,9 @@ fn a_long_word_is_chosen(rt: HostRuntime) -> Result<(), Fail> {
     let alloc = rt.alloc();
     let digits = text_of(alloc, (["--micro=", ""], "0", 1_000_000, "1"))?;
     let micro = String::from_utf8(digits)?;
+    #[rattlefmt::skip]
     let words = [
-        "pmb",
-        "number",
-        "--format",
-        "direct:-32768:-32768:-12",
-        "--word",
-        "7FFF",
-        micro.as_str(),
+        "pmb", "number", "--format", "direct:-32768:-32768:-12", "--word", "7FFF", micro.as_str(),
     ];
     is_number(&rt, &words, ("direct:-32768:-32768:-12", "7FFF", 1_000_001))
 }

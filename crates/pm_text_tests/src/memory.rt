@@ -68,14 +68,8 @@ fn a_command_is_chosen_or_wants_memory(rt: HostRuntime) {
         word: Some("0001"),
         micro: Some("-1"),
     };
-    let words = [
-        "pmb",
-        "number",
-        "--format=linear11",
-        "--word",
-        "0001",
-        "--micro=-1",
-    ];
+    #[rattlefmt::skip]
+    let words = ["pmb", "number", "--format=linear11", "--word", "0001", "--micro=-1"];
     expect_chosen(&rt, &words, Ok(number));
     expect_chosen(&rt, &["pmb", "hear"], Ok(Chosen::Hear));
     expect_chosen(&rt, &["pmb"], Err(ErrorKind::MissingSubcommand));

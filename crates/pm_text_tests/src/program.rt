@@ -72,32 +72,16 @@ fn is_text(paper: &Paper, text: &str) -> bool {
 }
 
 // The arguments, the status, and what is written on standard output and on standard error.
+#[rattlefmt::skip]
 static ENDS: [(&[&[u8]], u8, &str, &str); 7] = [
-    (
-        &[b"pmb", b"hear"],
-        0,
-        "taken\noutput 0 VOUT_COMMAND 34CD\noutput 1 VOUT_COMMAND 1000\n",
-        "",
-    ),
-    (
-        &[b"pmb", b"decode"],
-        0,
+    (&[b"pmb", b"hear"], 0, "taken\noutput 0 VOUT_COMMAND 34CD\noutput 1 VOUT_COMMAND 1000\n", ""),
+    (&[b"pmb", b"decode"], 0,
         "1 58 page 0 VOUT_COMMAND write 34CD\ncount VOUT_COMMAND 1\nlines 1 accepted 1 faults 0 bad 0\n",
-        "",
-    ),
+        ""),
     (&[b"pmb", b"replay"], 1, "", "pmb: X1 Syntax line 1\n"),
-    (
-        &[b"pmb", b"number", b"--format=linear11", b"--word=87FF"],
-        0,
-        "word 87FF value -1/65536 micro -16\n",
-        "",
-    ),
-    (
-        &[b"pmb", b"number", b"--format=linear11"],
-        2,
-        "",
-        "pmb: give one of --word and --micro\n",
-    ),
+    (&[b"pmb", b"number", b"--format=linear11", b"--word=87FF"], 0,
+        "word 87FF value -1/65536 micro -16\n", ""),
+    (&[b"pmb", b"number", b"--format=linear11"], 2, "", "pmb: give one of --word and --micro\n"),
     // Arguments that are no text aren't taken for want of memory, which has status 1.
     (&[b"pmb", b"h\xFFar"], 2, "", "pmb: bad arguments\n"),
     (&[b"\x80", b"hear"], 2, "", "pmb: bad arguments\n"),

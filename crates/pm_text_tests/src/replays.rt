@@ -68,108 +68,46 @@ fn is_reported(rt: &(impl Abort + AllocGlobal), events: &str, said: Said) -> Res
     Ok(())
 }
 
+#[rattlefmt::skip]
 static STOPS: [(&str, Said); 19] = [
     ("", ("ran 0", START, UNKNOWN, "none")),
-    (
-        "order 0 VOUT_COMMAND 34CD\nfinish ack\nexchange whole whole\nfinish ack\nexchange whole whole\n",
-        ("ran 5", START, "1000 host confirmed 1000", "differs 1000"),
-    ),
-    (
-        "learn 0\nexchange whole whole\nvolts 0 VOUT_COMMAND 3300000\ndeliver whole\nfinish ack\nexchange whole whole\n",
-        ("ran 6", HELD, CONFIRMED, "done"),
-    ),
-    (
-        "order 0 VOUT_COMMAND 34CD\ndeliver bytes B005040121CD344C stop\n",
-        ("stopped 1 S1 NotBetrayed", START, UNKNOWN, "pending"),
-    ),
-    (
-        "check 0 VOUT_COMMAND\nexchange whole bytes B102CD34B9\n",
-        ("stopped 1 S1 NotBetrayed", START, UNKNOWN, "pending"),
-    ),
+    ("order 0 VOUT_COMMAND 34CD\nfinish ack\nexchange whole whole\nfinish ack\nexchange whole whole\n",
+        ("ran 5", START, "1000 host confirmed 1000", "differs 1000")),
+    ("learn 0\nexchange whole whole\nvolts 0 VOUT_COMMAND 3300000\ndeliver whole\nfinish ack\nexchange whole whole\n",
+        ("ran 6", HELD, CONFIRMED, "done")),
+    ("order 0 VOUT_COMMAND 34CD\ndeliver bytes B005040121CD344C stop\n",
+        ("stopped 1 S1 NotBetrayed", START, UNKNOWN, "pending")),
+    ("check 0 VOUT_COMMAND\nexchange whole bytes B102CD34B9\n",
+        ("stopped 1 S1 NotBetrayed", START, UNKNOWN, "pending")),
     // The answer of output 0 to a check of output 1, which its PEC betrays.
-    (
-        "check 1 VOUT_COMMAND\nexchange whole bytes B102CD34B9\n",
-        ("ran 2", START, UNKNOWN, "pending"),
-    ),
-    (
-        "finish ack\n",
-        ("stopped 0 S2 NothingSent", START, UNKNOWN, "none"),
-    ),
-    (
-        "deliver whole\n",
-        ("stopped 0 S2 NothingSent", START, UNKNOWN, "none"),
-    ),
-    (
-        "check 0 VOUT_COMMAND\nfinish ack\n",
-        ("stopped 1 S3 WrongKind", START, UNKNOWN, "pending"),
-    ),
-    (
-        "order 0 VOUT_COMMAND 34CD\nexchange whole whole\n",
-        ("stopped 1 S3 WrongKind", START, UNKNOWN, "pending"),
-    ),
-    (
-        "check 1 VOUT_MAX\nlearn 0\n",
-        ("stopped 1 S4 Host H3 Busy", START, UNKNOWN, "pending"),
-    ),
-    (
-        "learn 2\n",
-        ("stopped 0 S4 Host H4 UnknownOutput", START, UNKNOWN, "none"),
-    ),
-    (
-        "order 0 OPERATION B0\n",
-        ("stopped 0 S4 Host H5 BadWord", START, UNKNOWN, "none"),
-    ),
-    (
-        "order 0 VOUT_COMMAND 34CD\ndeliver whole\nfinish ack\nexchange whole whole\nvolts 0 OPERATION 5\n",
-        ("stopped 4 S4 Host H5 BadWord", HELD, CONFIRMED, "done"),
-    ),
-    (
-        "volts 0 VOUT_COMMAND 3300000\n",
-        ("stopped 0 S4 Host H7 FormatUnknown", START, UNKNOWN, "none"),
-    ),
-    (
-        "learn 0\nexchange whole whole\nvolts 1 VOUT_COMMAND 3300000\n",
-        (
-            "stopped 2 S4 Host H7 FormatUnknown",
-            START,
-            UNKNOWN,
-            "learned",
-        ),
-    ),
-    (
-        "learn 0\nexchange whole whole\nvolts 0 VOUT_COMMAND -1\n",
-        ("stopped 2 S4 Host N3 BelowLeast", START, UNKNOWN, "learned"),
-    ),
-    (
-        "learn 0\nexchange whole whole\nvolts 0 VOUT_COMMAND 16000000\n",
-        (
-            "stopped 2 S4 Host N4 AboveGreatest",
-            START,
-            UNKNOWN,
-            "learned",
-        ),
-    ),
-    (
-        "learn 0\nexchange whole whole\nvolts 0 VOUT_COMMAND 1000000000000001\n",
-        ("stopped 2 S4 Host N5 TooLarge", START, UNKNOWN, "learned"),
-    ),
+    ("check 1 VOUT_COMMAND\nexchange whole bytes B102CD34B9\n",
+        ("ran 2", START, UNKNOWN, "pending")),
+    ("finish ack\n", ("stopped 0 S2 NothingSent", START, UNKNOWN, "none")),
+    ("deliver whole\n", ("stopped 0 S2 NothingSent", START, UNKNOWN, "none")),
+    ("check 0 VOUT_COMMAND\nfinish ack\n", ("stopped 1 S3 WrongKind", START, UNKNOWN, "pending")),
+    ("order 0 VOUT_COMMAND 34CD\nexchange whole whole\n",
+        ("stopped 1 S3 WrongKind", START, UNKNOWN, "pending")),
+    ("check 1 VOUT_MAX\nlearn 0\n", ("stopped 1 S4 Host H3 Busy", START, UNKNOWN, "pending")),
+    ("learn 2\n", ("stopped 0 S4 Host H4 UnknownOutput", START, UNKNOWN, "none")),
+    ("order 0 OPERATION B0\n", ("stopped 0 S4 Host H5 BadWord", START, UNKNOWN, "none")),
+    ("order 0 VOUT_COMMAND 34CD\ndeliver whole\nfinish ack\nexchange whole whole\nvolts 0 OPERATION 5\n",
+        ("stopped 4 S4 Host H5 BadWord", HELD, CONFIRMED, "done")),
+    ("volts 0 VOUT_COMMAND 3300000\n",
+        ("stopped 0 S4 Host H7 FormatUnknown", START, UNKNOWN, "none")),
+    ("learn 0\nexchange whole whole\nvolts 1 VOUT_COMMAND 3300000\n",
+        ("stopped 2 S4 Host H7 FormatUnknown", START, UNKNOWN, "learned")),
+    ("learn 0\nexchange whole whole\nvolts 0 VOUT_COMMAND -1\n",
+        ("stopped 2 S4 Host N3 BelowLeast", START, UNKNOWN, "learned")),
+    ("learn 0\nexchange whole whole\nvolts 0 VOUT_COMMAND 16000000\n",
+        ("stopped 2 S4 Host N4 AboveGreatest", START, UNKNOWN, "learned")),
+    ("learn 0\nexchange whole whole\nvolts 0 VOUT_COMMAND 1000000000000001\n",
+        ("stopped 2 S4 Host N5 TooLarge", START, UNKNOWN, "learned")),
 ];
 
-#[test]
-fn a_replay_goes_on_to_the_first_event_that_is_not_taken(rt: HostRuntime) -> Result<(), Fail> {
-    for &(events, said) in &STOPS {
-        is_reported(&rt, events, said)?;
-    }
-    Ok(())
-}
-
 /// The events of an order, and the end of the text.
+#[rattlefmt::skip]
 static ORDER: [&str; 5] = [
-    "order 0 VOUT_COMMAND 34CD\n",
-    "deliver whole\n",
-    "finish ack\n",
-    "exchange whole whole\n",
-    "",
+    "order 0 VOUT_COMMAND 34CD\n", "deliver whole\n", "finish ack\n", "exchange whole whole\n", "",
 ];
 
 // An order with a restart of an end before the event at this place.
@@ -187,52 +125,19 @@ fn with_restart(alloc: Global, end: &str, place: usize) -> Result<String, Fail> 
 }
 
 // What starts again, and before which event of the order; 4 is after the last.
+#[rattlefmt::skip]
 static RESTARTS: [(&str, usize, Said); 10] = [
     ("device", 0, ("ran 5", HELD, CONFIRMED, "done")),
     ("device", 1, ("ran 5", HELD, CONFIRMED, "done")),
     ("device", 2, ("ran 5", START, UNKNOWN, "pending")),
     ("device", 3, ("ran 5", START, UNKNOWN, "pending")),
-    (
-        "device",
-        4,
-        ("ran 5", START, "1000 host confirmed 34CD", "done"),
-    ),
+    ("device", 4, ("ran 5", START, "1000 host confirmed 34CD", "done")),
     ("host", 0, ("ran 5", HELD, CONFIRMED, "done")),
-    (
-        "host",
-        1,
-        ("stopped 2 S2 NothingSent", START, UNKNOWN, "none"),
-    ),
-    (
-        "host",
-        2,
-        (
-            "stopped 3 S2 NothingSent",
-            HELD,
-            "34CD host unknown",
-            "none",
-        ),
-    ),
-    (
-        "host",
-        3,
-        (
-            "stopped 4 S2 NothingSent",
-            HELD,
-            "34CD host unknown",
-            "none",
-        ),
-    ),
+    ("host", 1, ("stopped 2 S2 NothingSent", START, UNKNOWN, "none")),
+    ("host", 2, ("stopped 3 S2 NothingSent", HELD, "34CD host unknown", "none")),
+    ("host", 3, ("stopped 4 S2 NothingSent", HELD, "34CD host unknown", "none")),
     ("host", 4, ("ran 5", HELD, "34CD host unknown", "none")),
 ];
-
-#[test]
-fn a_restart_of_either_end_at_each_place_of_an_order(rt: HostRuntime) -> Result<(), Fail> {
-    for &(end, place, said) in &RESTARTS {
-        is_reported(&rt, &with_restart(rt.alloc(), end, place)?, said)?;
-    }
-    Ok(())
-}
 
 // A check, and then sixteen orders that nothing answers.
 fn sixteen_orders(alloc: Global) -> Result<String, Fail> {
@@ -249,10 +154,19 @@ fn sixteen_orders(alloc: Global) -> Result<String, Fail> {
 }
 
 #[test]
-fn a_seventeenth_possible_word_is_refused(rt: HostRuntime) -> Result<(), Fail> {
+fn a_replay_goes_on_to_the_first_event_that_is_not_taken(rt: HostRuntime) -> Result<(), Fail> {
+    for &(events, said) in &STOPS {
+        is_reported(&rt, events, said)?;
+    }
+    // Either end restarts at each place of an order.
+    for &(end, place, said) in &RESTARTS {
+        is_reported(&rt, &with_restart(rt.alloc(), end, place)?, said)?;
+    }
+    // A seventeenth possible word is refused.
     let first = "stopped 77 S4 Host H6 TooUncertain";
     let events = sixteen_orders(rt.alloc())?;
-    is_reported(&rt, &events, (first, START, UNKNOWN, "unknown"))
+    is_reported(&rt, &events, (first, START, UNKNOWN, "unknown"))?;
+    Ok(())
 }
 
 // The report of a run without events that is said to have taken so many, and to have stopped so.

@@ -2,7 +2,7 @@
 
 ghost use Rattle.std.specs.Prelude.{IsFalse};
 
-use crate::checks::{equal, is_true};
+use crate::checks::{equal, is_true, words_of};
 use crate::{
     FRAME, Failure, KINDS, LINES, Paper, Pieces, REPORT, SCENARIO, TAKEN, TRACE, blank_paper,
     in_pieces,
@@ -89,16 +89,6 @@ fn ends_unread(rt: &(impl Abort + AllocGlobal), kind: ErrorKind, status: u8, err
     equal(rt, &input.into_inner().calls, &0, &1);
 }
 
-#[test]
-fn every_status_has_its_texts(rt: HostRuntime) {
-    let hear = ["pmb", "hear"];
-    ends(&rt, &hear, FRAME, 0, (TAKEN, ""));
-    ends(&rt, &hear, "/ /", 1, ("", "pmb: X1 Syntax line 1\n"));
-    ends(&rt, &hear, "\n\nB0 0", 1, ("", "pmb: X2 BadHex line 3\n"));
-    ends_unread(&rt, ErrorKind::OutOfMemory, 1, "pmb: X6 Memory\n");
-    ends_unread(&rt, ErrorKind::InvalidData, 2, "pmb: bad arguments\n");
-}
-
 /// A log of a part's own answers. Its VOUT_MAX holds it at 1 V, and the claim says that it has none.
 const WITHOUT: &str =
     "#log 58 2 2\nB0 06 02 00 20 / B1 01 14 4E\nB0 06 02 00 01 / B1 01 80 73\nB0 06 02 00 21 / B1 02 CD 34 B9\n#commands 0 3300048 to 3300049 uV without VOUT_MAX VOUT_MIN\n";
@@ -110,103 +100,46 @@ const BELIED: &str =
 const BAD_LACKS: &str =
     "pmb: bad lacks: give an address and VOUT_MAX, VOUT_MARGIN_HIGH, VOUT_MARGIN_LOW or VOUT_MIN, as 58:VOUT_MAX,VOUT_MIN\n";
 
-/// Options of `check`, the log, the status, and what is written on standard output.
-static CHECKS: [(&[&str], &str, u8, &str); 10] = [
-    (
-        &[],
-        WITHOUT,
-        1,
-        "line 5: the writer says that 58 lacks VOUT_MAX VOUT_MIN: --lacks=58:VOUT_MAX,VOUT_MIN if its data sheet says so\n",
-    ),
-    (
-        &["--lacks=58:VOUT_MAX,VOUT_MIN"],
-        WITHOUT,
-        0,
-        "accepted: 1 claim, 3 transfers; without VOUT_MAX VOUT_MIN of 58 by --lacks\n",
-    ),
+/// The words after `pmb`, the log, the status, and what is written on standard output.
+#[rattlefmt::skip]
+static CHECKS: [(&str, &str, u8, &str); 10] = [
+    ("check", WITHOUT, 1,
+        "line 5: the writer says that 58 lacks VOUT_MAX VOUT_MIN: --lacks=58:VOUT_MAX,VOUT_MIN if its data sheet says so\n"),
+    ("check --lacks=58:VOUT_MAX,VOUT_MIN", WITHOUT, 0,
+        "accepted: 1 claim, 3 transfers; without VOUT_MAX VOUT_MIN of 58 by --lacks\n"),
     // In any order, twice, in several options, with an address in either case and a slash for the colon.
-    (
-        &["--lacks", "58/VOUT_MIN,VOUT_MAX,VOUT_MIN"],
-        WITHOUT,
-        0,
-        "accepted: 1 claim, 3 transfers; without VOUT_MAX VOUT_MIN of 58 by --lacks\n",
-    ),
-    (
-        &[
-            "--lacks=58:VOUT_MIN",
-            "--lacks=6a:VOUT_MIN",
-            "--lacks=58:VOUT_MAX",
-        ],
-        WITHOUT,
-        0,
-        "accepted: 1 claim, 3 transfers; without VOUT_MAX VOUT_MIN of 58 by --lacks\n",
-    ),
-    (
-        &["--lacks=58:VOUT_MIN"],
-        WITHOUT,
-        1,
-        "line 5: the writer says that 58 lacks VOUT_MAX: --lacks=58:VOUT_MAX if its data sheet says so\n",
-    ),
-    (
-        &["--lacks=59:VOUT_MAX,VOUT_MIN"],
-        WITHOUT,
-        1,
-        "line 5: the writer says that 58 lacks VOUT_MAX VOUT_MIN: --lacks=58:VOUT_MAX,VOUT_MIN if its data sheet says so\n",
-    ),
-    (
-        &["--lacks=58:VOUT_MAX,VOUT_MARGIN_HIGH,VOUT_MARGIN_LOW,VOUT_MIN"],
-        WITHOUT,
-        0,
-        "accepted: 1 claim, 3 transfers; without VOUT_MAX VOUT_MIN of 58 by --lacks\n",
-    ),
-    (
-        &["--lacks=58:VOUT_MARGIN_HIGH,VOUT_MARGIN_LOW"],
-        WITHOUT,
-        1,
-        "line 5: the writer says that 58 lacks VOUT_MAX VOUT_MIN: --lacks=58:VOUT_MAX,VOUT_MIN if its data sheet says so\n",
-    ),
-    (
-        &[],
-        BELIED,
-        1,
-        "line 6: the writer says that 58 lacks VOUT_MAX: 0 VOUT_MAX answered on line 5\n",
-    ),
-    (
-        &["--lacks=58:VOUT_MAX,VOUT_MIN"],
-        BELIED,
-        1,
-        "line 6: the writer says that 58 lacks VOUT_MAX: 0 VOUT_MAX answered on line 5\n",
-    ),
+    ("check --lacks 58/VOUT_MIN,VOUT_MAX,VOUT_MIN", WITHOUT, 0,
+        "accepted: 1 claim, 3 transfers; without VOUT_MAX VOUT_MIN of 58 by --lacks\n"),
+    ("check --lacks=58:VOUT_MIN --lacks=6a:VOUT_MIN --lacks=58:VOUT_MAX", WITHOUT, 0,
+        "accepted: 1 claim, 3 transfers; without VOUT_MAX VOUT_MIN of 58 by --lacks\n"),
+    ("check --lacks=58:VOUT_MIN", WITHOUT, 1,
+        "line 5: the writer says that 58 lacks VOUT_MAX: --lacks=58:VOUT_MAX if its data sheet says so\n"),
+    ("check --lacks=59:VOUT_MAX,VOUT_MIN", WITHOUT, 1,
+        "line 5: the writer says that 58 lacks VOUT_MAX VOUT_MIN: --lacks=58:VOUT_MAX,VOUT_MIN if its data sheet says so\n"),
+    ("check --lacks=58:VOUT_MAX,VOUT_MARGIN_HIGH,VOUT_MARGIN_LOW,VOUT_MIN", WITHOUT, 0,
+        "accepted: 1 claim, 3 transfers; without VOUT_MAX VOUT_MIN of 58 by --lacks\n"),
+    ("check --lacks=58:VOUT_MARGIN_HIGH,VOUT_MARGIN_LOW", WITHOUT, 1,
+        "line 5: the writer says that 58 lacks VOUT_MAX VOUT_MIN: --lacks=58:VOUT_MAX,VOUT_MIN if its data sheet says so\n"),
+    ("check", BELIED, 1,
+        "line 6: the writer says that 58 lacks VOUT_MAX: 0 VOUT_MAX answered on line 5\n"),
+    ("check --lacks=58:VOUT_MAX,VOUT_MIN", BELIED, 1,
+        "line 6: the writer says that 58 lacks VOUT_MAX: 0 VOUT_MAX answered on line 5\n"),
 ];
 
 /// A text of `--lacks` that can't be read.
+#[rattlefmt::skip]
 static NO_LACKS: [&str; 16] = [
-    "--lacks=",
-    "--lacks=58",
-    "--lacks=58:",
-    "--lacks=:VOUT_MAX",
-    "--lacks=VOUT_MAX",
-    "--lacks=58:VOUT_MAX,",
-    "--lacks=58:,VOUT_MAX",
-    "--lacks=58:VOUT_MAX VOUT_MIN",
-    "--lacks=58:vout_max",
-    "--lacks=58:VOUT_COMMAND",
-    "--lacks=58:OPERATION",
-    "--lacks=58:VOUT_MAX:VOUT_MIN",
-    "--lacks=07:VOUT_MAX",
-    "--lacks=78:VOUT_MAX",
-    "--lacks=0x58:VOUT_MAX",
-    "--lacks=58:VOUT_MAX,59:VOUT_MAX",
+    "--lacks=", "--lacks=58", "--lacks=58:", "--lacks=:VOUT_MAX", "--lacks=VOUT_MAX",
+    "--lacks=58:VOUT_MAX,", "--lacks=58:,VOUT_MAX", "--lacks=58:VOUT_MAX VOUT_MIN",
+    "--lacks=58:vout_max", "--lacks=58:VOUT_COMMAND", "--lacks=58:OPERATION",
+    "--lacks=58:VOUT_MAX:VOUT_MIN", "--lacks=07:VOUT_MAX", "--lacks=78:VOUT_MAX",
+    "--lacks=0x58:VOUT_MAX", "--lacks=58:VOUT_MAX,59:VOUT_MAX",
 ];
 
 #[test]
 fn every_status_of_check_has_its_texts(rt: HostRuntime) -> Result<(), Fail> {
-    for &(options, log, status, output) in &CHECKS {
-        let mut words = vec![in rt.alloc(); "pmb"; 1]?;
-        words.push("check")?;
-        for option in options {
-            words.push(option)?;
-        }
+    for &(words, log, status, output) in &CHECKS {
+        let words = words_of(rt.alloc(), words)?;
         ends(&rt, words.as_slice(), log, status, (output, ""));
     }
     for &option in &NO_LACKS {
@@ -236,7 +169,14 @@ static NO_NUMBERS: [(&str, u8, &str); 3] = [
 ];
 
 #[test]
-fn every_status_of_number_has_its_texts(rt: HostRuntime) {
+fn every_status_has_its_texts(rt: HostRuntime) {
+    let hear = ["pmb", "hear"];
+    ends(&rt, &hear, FRAME, 0, (TAKEN, ""));
+    ends(&rt, &hear, "/ /", 1, ("", "pmb: X1 Syntax line 1\n"));
+    ends(&rt, &hear, "\n\nB0 0", 1, ("", "pmb: X2 BadHex line 3\n"));
+    ends_unread(&rt, ErrorKind::OutOfMemory, 1, "pmb: X6 Memory\n");
+    ends_unread(&rt, ErrorKind::InvalidData, 2, "pmb: bad arguments\n");
+    // Every status of `number` has its texts.
     for &(option, status, output, errors) in &NUMBERS {
         let words = ["pmb", "number", "--format=linear11", option];
         ends(&rt, &words, FRAME, status, (output, errors));
@@ -270,10 +210,7 @@ fn ends_reading(
 }
 
 fn ends_at_read(rt: &(impl Abort + AllocGlobal), command: &str, fails_at: usize) {
-    let reader = Pieces {
-        fails_at,
-        ..in_pieces(FRAME.as_bytes(), 7)
-    };
+    let reader = with! { Pieces, in_pieces(FRAME.as_bytes(), 7); fails_at };
     let calls = ends_reading(rt, &["pmb", command], reader, "pmb: X4 Read\n");
     equal(rt, &calls, &fails_at, &command);
 }
@@ -317,11 +254,7 @@ fn ends_at_write(
     fails_at: usize,
     failure: Failure,
 ) {
-    let output = Paper {
-        fails_at,
-        failure,
-        ..blank_paper(rt.alloc(), 1)
-    };
+    let output = with! { Paper, blank_paper(rt.alloc(), 1); fails_at, failure };
     let found = run_into(rt.alloc(), words, output);
     equal(rt, &found.output.calls, &fails_at, &words);
     equal(rt, &found.output.flushes, &0, &fails_at);
@@ -344,10 +277,7 @@ fn holds_a_front(rt: &(impl Abort + AllocGlobal), words: &[&str], text: &str) {
             ends_at_write(rt, words, text, fails_at, Failure::Error(kind));
         }
     }
-    let output = Paper {
-        flush_fails: true,
-        ..blank_paper(rt.alloc(), 1)
-    };
+    let output = with! { Paper, blank_paper(rt.alloc(), 1); flush_fails: true };
     let found = run_into(rt.alloc(), words, output);
     is_true(rt, found.is(1, text, "pmb: X5 Write\n"), &1);
 }
@@ -362,19 +292,16 @@ fn a_failed_output_is_told_and_holds_a_front(rt: HostRuntime) {
 }
 
 /// A replay that stops, and its report.
-static STOPPED: &str =
+const STOPPED: &str =
     "scenario 1\naddress 58\npasses 2\nprotect 00\ncoefficients 1 0 0\noutput 14 80 1000 4000 1100 0F00\nbegin\nfinish ack\n";
 
-static STOPPED_REPORT: &str =
+const STOPPED_REPORT: &str =
     "stopped 0 S2 NothingSent\nprotect 00 host unknown\noutput 0 on commanded 4096/4096 1000000 uV\nOPERATION 80 host unknown\nVOUT_COMMAND 1000 host unknown\nVOUT_MAX 4000 host unknown\nVOUT_MARGIN_HIGH 1100 host unknown\nVOUT_MARGIN_LOW 0F00 host unknown\nstatus 00 0000 00\ncml 00\nrestart seen no\njob none\n";
 
 // A run over an output whose flush fails, or not.
 fn flushed(alloc: Global, words: &[&str], text: &str, flush_fails: bool) -> Ran {
     let mut input = Source::new(in_pieces(text.as_bytes(), 4096));
-    let output = Paper {
-        flush_fails,
-        ..blank_paper(alloc, 4096)
-    };
+    let output = with! { Paper, blank_paper(alloc, 4096); flush_fails };
     run_with(
         alloc,
         Ok(words),
@@ -385,40 +312,21 @@ fn flushed(alloc: Global, words: &[&str], text: &str, flush_fails: bool) -> Ran 
 }
 
 /// The option or the command, what is read, the status, what is printed and what is said.
-static HANDED_ON: [(&str, &str, u8, &str, &str); 9] = [
-    (
-        "decode",
-        "B0",
-        0,
-        "1 58 write F2 Short 1\nlines 1 accepted 0 faults 1 bad 0\n",
-        "",
-    ),
+#[rattlefmt::skip]
+static HANDED_ON: [(&str, &str, u8, &str, &str); 13] = [
+    ("hear", FRAME, 0, TAKEN, ""), ("replay", SCENARIO, 0, REPORT, ""),
+    ("replay", STOPPED, 1, STOPPED_REPORT, ""), ("decode", TRACE, 1, LINES, ""),
+    ("decode", "B0", 0, "1 58 write F2 Short 1\nlines 1 accepted 0 faults 1 bad 0\n", ""),
     ("decode", "", 0, "lines 0 accepted 0 faults 0 bad 0\n", ""),
     ("--version", "", 0, "pmb 0.1.0\n", ""),
     ("hear", "/ /", 1, "", "pmb: X1 Syntax line 1\n"),
     ("replay", "", 1, "", "pmb: X1 Syntax line 1\n"),
-    (
-        "replay",
-        "scenario 1\naddress 5\n",
-        1,
-        "",
-        "pmb: X2 BadHex line 2\n",
-    ),
+    ("replay", "scenario 1\naddress 5\n", 1, "", "pmb: X2 BadHex line 2\n"),
     ("number", "", 2, "", "pmb: give one of --word and --micro\n"),
-    (
-        "check",
-        "#log 58 2 2\nB0 06 02 00 21 / B1 02 CD 34 B9\n#holds 0 VOUT_COMMAND 34CD\n",
-        0,
-        "accepted: 1 claim, 1 transfer\n",
-        "",
-    ),
-    (
-        "check",
-        "#log 58 2 2\nB0 06 02 00 21 / B1 02 CD 34 B8\n#holds 0 VOUT_COMMAND 34CD\n",
-        1,
-        "line 3: 0 VOUT_COMMAND isn't known to hold 34CD: possible any\n",
-        "",
-    ),
+    ("check", "#log 58 2 2\nB0 06 02 00 21 / B1 02 CD 34 B9\n#holds 0 VOUT_COMMAND 34CD\n", 0,
+        "accepted: 1 claim, 1 transfer\n", ""),
+    ("check", "#log 58 2 2\nB0 06 02 00 21 / B1 02 CD 34 B8\n#holds 0 VOUT_COMMAND 34CD\n", 1,
+        "line 3: 0 VOUT_COMMAND isn't known to hold 34CD: possible any\n", ""),
 ];
 
 #[test]
@@ -426,10 +334,6 @@ fn what_is_printed_is_handed_on_once_whatever_the_status(rt: HostRuntime) {
     for &(command, text, status, output, errors) in &HANDED_ON {
         is_handed_on(&rt, command, text, status, (output, errors));
     }
-    is_handed_on(&rt, "hear", FRAME, 0, (TAKEN, ""));
-    is_handed_on(&rt, "replay", SCENARIO, 0, (REPORT, ""));
-    is_handed_on(&rt, "replay", STOPPED, 1, (STOPPED_REPORT, ""));
-    is_handed_on(&rt, "decode", TRACE, 1, (LINES, ""));
 }
 
 // What is printed is flushed once, and a flush that fails is said.
@@ -445,14 +349,11 @@ fn is_handed_on(
     let found = flushed(rt.alloc(), &words, text, false);
     is_true(rt, found.is(status, output, errors), &(command, text));
     let printed = usize::from(!output.is_empty());
-    equal(rt, &found.output.flushes, &printed, &(command, text));
-    equal(
-        rt,
-        &(found.output.calls > 0),
-        &(printed > 0),
-        &(command, text),
-    );
-    equal(rt, &found.errors.flushes, &0, &(command, text));
+    compare! { rt, (command, text);
+        found.output.flushes => printed;
+        (found.output.calls > 0) => (printed > 0);
+        found.errors.flushes => 0;
+    }
     if printed > 0 {
         let failed = flushed(rt.alloc(), &words, text, true);
         is_true(
@@ -472,10 +373,7 @@ fn keeps_status(
     fails_at: usize,
 ) {
     let mut input = Source::new(in_pieces(b"ZZ", 7));
-    let errors = Paper {
-        fails_at,
-        ..blank_paper(rt.alloc(), 1)
-    };
+    let errors = with! { Paper, blank_paper(rt.alloc(), 1); fails_at };
     let output = blank_paper(rt.alloc(), 1);
     let words = ["pmb", command];
     let found = run_with(rt.alloc(), Ok(&words), &mut input, output, errors);

@@ -12,14 +12,10 @@ use std::process::Abort;
 use std::test::Fail;
 
 /// The lines before the events.
+#[rattlefmt::skip]
 static HEAD: [&str; 7] = [
-    "scenario 1",
-    "address 58",
-    "passes 2",
-    "protect 00",
-    "coefficients 1 0 0",
-    "output 14 80 1000 4000 1100 0F00",
-    "begin",
+    "scenario 1", "address 58", "passes 2", "protect 00", "coefficients 1 0 0",
+    "output 14 80 1000 4000 1100 0F00", "begin",
 ];
 
 const START: OutputStart = OutputStart {
@@ -114,63 +110,36 @@ fn is_read(rt: &(impl Abort + AllocGlobal), line: &str, wanted: &str) -> Result<
     Ok(())
 }
 
+#[rattlefmt::skip]
 static EVENT_LINES: [(&str, &str); 29] = [
-    (
-        "order 0 VOUT_COMMAND 34CD",
-        "[Order(Out(0, VoutCommand), 13517)]",
-    ),
-    (
-        "order 255 OPERATION 80",
-        "[Order(Out(255, Operation), 128)]",
-    ),
+    ("order 0 VOUT_COMMAND 34CD", "[Order(Out(0, VoutCommand), 13517)]"),
+    ("order 255 OPERATION 80", "[Order(Out(255, Operation), 128)]"),
     ("  order   -  WRITE_PROTECT 4f  ", "[Order(Protect, 79)]"),
     ("order 01 VOUT_MAX abCD", "[Order(Out(1, VoutMax), 43981)]"),
     ("volts 0 OPERATION 5", "[OrderMicro(Out(0, Operation), 5)]"),
-    (
-        "volts 1 VOUT_MARGIN_LOW -0",
-        "[OrderMicro(Out(1, MarginLow), 0)]",
-    ),
-    (
-        "volts 0 VOUT_MARGIN_HIGH -009223372036854775808",
-        "[OrderMicro(Out(0, MarginHigh), -9223372036854775808)]",
-    ),
-    (
-        "volts 0 VOUT_COMMAND 9223372036854775807",
-        "[OrderMicro(Out(0, VoutCommand), 9223372036854775807)]",
-    ),
+    ("volts 1 VOUT_MARGIN_LOW -0", "[OrderMicro(Out(1, MarginLow), 0)]"),
+    ("volts 0 VOUT_MARGIN_HIGH -009223372036854775808",
+        "[OrderMicro(Out(0, MarginHigh), -9223372036854775808)]"),
+    ("volts 0 VOUT_COMMAND 9223372036854775807",
+        "[OrderMicro(Out(0, VoutCommand), 9223372036854775807)]"),
     ("check 7 VOUT_MARGIN_HIGH", "[Check(Out(7, MarginHigh))]"),
-    ("check - WRITE_PROTECT", "[Check(Protect)]"),
-    ("learn 1", "[Learn(1)]"),
-    ("clear 0", "[Clear(0)]"),
-    ("deliver whole", "[Deliver(Whole)]"),
-    (
-        "deliver cut 000000000000000000000255",
-        "[Deliver(Cut(255))]",
-    ),
+    ("check - WRITE_PROTECT", "[Check(Protect)]"), ("learn 1", "[Learn(1)]"),
+    ("clear 0", "[Clear(0)]"), ("deliver whole", "[Deliver(Whole)]"),
+    ("deliver cut 000000000000000000000255", "[Deliver(Cut(255))]"),
     ("deliver bytes b0 stop", "[Deliver(Bytes([176], Stop))]"),
-    (
-        "deliver bytes 000102030405060708090A0B0C0D0E0F restart",
-        "[Deliver(Bytes([0, 1, 2, 3, 4, 5, 6, 7, 8, 9, 10, 11, 12, 13, 14, 15], Restart))]",
-    ),
-    ("finish ack", "[Finish(true)]"),
-    ("finish nack", "[Finish(false)]"),
+    ("deliver bytes 000102030405060708090A0B0C0D0E0F restart",
+        "[Deliver(Bytes([0, 1, 2, 3, 4, 5, 6, 7, 8, 9, 10, 11, 12, 13, 14, 15], Restart))]"),
+    ("finish ack", "[Finish(true)]"), ("finish nack", "[Finish(false)]"),
     ("exchange whole whole", "[Exchange(Whole, Whole)]"),
     ("exchange cut 1 cut 0", "[Exchange(Cut(1), Cut(0))]"),
-    (
-        "exchange bytes B020 restart bytes B114ED",
-        "[Exchange(Bytes([176, 32], Restart), Bytes([177, 20, 237]))]",
-    ),
-    ("restart device", "[RestartDevice]"),
-    ("restart host", "[RestartHost]"),
+    ("exchange bytes B020 restart bytes B114ED",
+        "[Exchange(Bytes([176, 32], Restart), Bytes([177, 20, 237]))]"),
+    ("restart device", "[RestartDevice]"), ("restart host", "[RestartHost]"),
     ("reading 1 READ_VOUT 3000", "[Reading(1, Code(139), 12288)]"),
     ("reading 0 READ_IOUT FFFF", "[Reading(0, Code(140), 65535)]"),
     ("reading - READ_VIN 0c00", "[Reading(0, Code(136), 3072)]"),
-    (
-        "reading - READ_TEMPERATURE_1 0000",
-        "[Reading(0, Code(141), 0)]",
-    ),
-    ("", "[]"),
-    ("# learn", "[]"),
+    ("reading - READ_TEMPERATURE_1 0000", "[Reading(0, Code(141), 0)]"),
+    ("", "[]"), ("# learn", "[]"),
 ];
 
 #[test]
@@ -195,12 +164,7 @@ fn has_coefficients(
     r: i8,
 ) -> Result<(), Fail> {
     let scenario = with_line(rt.alloc(), 4, line)?;
-    equal(
-        rt,
-        &scenario.config.coefficients,
-        &Coefficients { m, b, r },
-        &line,
-    );
+    compare! { rt, line; scenario.config.coefficients => Coefficients { m, b, r } }
     Ok(())
 }
 

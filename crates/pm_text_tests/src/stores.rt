@@ -4,6 +4,7 @@ use crate::checks::{equal, is_true, joined, shown};
 use crate::scenarios::{is_refused, scenario_of};
 use crate::{Engine, Engines, SCENARIO, in_pieces};
 use pm_text::TextFault;
+use pm_text::TextFault::Syntax;
 use std::alloc::Global;
 use std::process::Abort;
 use std::test::Fail;
@@ -40,66 +41,31 @@ const START: &str =
 // last lines.
 type Row = (&'static str, &'static str, [&'static str; 2], &'static str);
 
+#[rattlefmt::skip]
 static ROWS: [Row; 9] = [
-    (
-        "store\ndeliver whole\nfinish ack\nrestart device\n",
-        "ran 8\n",
-        [STORED, "confirmed 34CD\n"],
-        "cml 00\nrestart seen no\njob done\n",
-    ),
-    (
-        "store\nfinish ack\nrestart device\n",
-        "ran 7\n",
-        [START, "confirmed 34CD\n"],
-        "cml 00\nrestart seen no\njob done\n",
-    ),
-    (
-        "restore\ndeliver whole\nfinish ack\n",
-        "ran 7\n",
-        [START, "unknown possible any\n"],
-        "cml 00\nrestart seen no\njob done\n",
-    ),
+    ("store\ndeliver whole\nfinish ack\nrestart device\n", "ran 8\n", [STORED, "confirmed 34CD\n"],
+        "cml 00\nrestart seen no\njob done\n"),
+    ("store\nfinish ack\nrestart device\n", "ran 7\n", [START, "confirmed 34CD\n"],
+        "cml 00\nrestart seen no\njob done\n"),
+    ("restore\ndeliver whole\nfinish ack\n", "ran 7\n", [START, "unknown possible any\n"],
+        "cml 00\nrestart seen no\njob done\n"),
     // Heard twice, with a restart between.
-    (
-        "store\ndeliver whole\nfinish nack\nrestart device\ndeliver whole\nfinish ack\nrestart device\n",
-        "ran 11\n",
-        [STORED, "confirmed 34CD\n"],
-        "cml 00\nrestart seen no\njob done\n",
-    ),
+    ("store\ndeliver whole\nfinish nack\nrestart device\ndeliver whole\nfinish ack\nrestart device\n",
+        "ran 11\n", [STORED, "confirmed 34CD\n"], "cml 00\nrestart seen no\njob done\n"),
     // Cut short at each place.
-    (
-        "store\ndeliver cut 0\ndeliver cut 1\ndeliver cut 2\nfinish nack\nrestart device\n",
-        "ran 10\n",
-        [START, "confirmed 34CD\n"],
-        "cml 00\nrestart seen no\njob pending\n",
-    ),
+    ("store\ndeliver cut 0\ndeliver cut 1\ndeliver cut 2\nfinish nack\nrestart device\n",
+        "ran 10\n", [START, "confirmed 34CD\n"], "cml 00\nrestart seen no\njob pending\n"),
     // Stored, changed and restored: the host doesn't know, until it reads the cell.
-    (
-        "store\ndeliver whole\nfinish ack\norder 0 VOUT_COMMAND 1000\ndeliver whole\nfinish ack\nexchange whole whole\nrestore\ndeliver whole\nfinish ack\n",
-        "ran 14\n",
-        [STORED, "unknown possible any\n"],
-        "cml 00\nrestart seen no\njob done\n",
-    ),
-    (
-        "store\ndeliver whole\nfinish ack\nrestore\ndeliver whole\nfinish ack\ncheck 0 VOUT_COMMAND\nexchange whole whole\n",
-        "ran 12\n",
-        [STORED, "confirmed 34CD\n"],
-        "cml 00\nrestart seen no\njob done\n",
-    ),
+    ("store\ndeliver whole\nfinish ack\norder 0 VOUT_COMMAND 1000\ndeliver whole\nfinish ack\nexchange whole whole\nrestore\ndeliver whole\nfinish ack\n",
+        "ran 14\n", [STORED, "unknown possible any\n"], "cml 00\nrestart seen no\njob done\n"),
+    ("store\ndeliver whole\nfinish ack\nrestore\ndeliver whole\nfinish ack\ncheck 0 VOUT_COMMAND\nexchange whole whole\n",
+        "ran 12\n", [STORED, "confirmed 34CD\n"], "cml 00\nrestart seen no\njob done\n"),
     // A restore that never arrives: the host can't know.
-    (
-        "restore\nfinish nack\nfinish nack\n",
-        "ran 7\n",
-        [STORED, "unknown possible any\n"],
-        "cml 00\nrestart seen no\njob unknown\n",
-    ),
+    ("restore\nfinish nack\nfinish nack\n", "ran 7\n", [STORED, "unknown possible any\n"],
+        "cml 00\nrestart seen no\njob unknown\n"),
     // A job is open.
-    (
-        "store\nrestore\n",
-        "stopped 5 S4 Host H3 Busy\n",
-        [STORED, "confirmed 34CD\n"],
-        "cml 00\nrestart seen no\njob pending\n",
-    ),
+    ("store\nrestore\n", "stopped 5 S4 Host H3 Busy\n", [STORED, "confirmed 34CD\n"],
+        "cml 00\nrestart seen no\njob pending\n"),
 ];
 
 // Whether a report begins and ends so, with these lines of output 0 in it.
@@ -110,8 +76,25 @@ fn is_told(told: &str, first: &str, [held, said]: [&str; 2], last: &str) -> bool
     front.starts_with(first) && rest.starts_with(said) && rest.ends_with(last)
 }
 
+// WRITE_PROTECT at the start, events after the order, what WRITE_PROTECT then is and what the host says of it.
+#[rattlefmt::skip]
+static PROTECTED: [(&str, &str, &str); 4] = [
+    // WRITE_PROTECT isn't stored: a restore leaves it, and a restart gives its start word.
+    ("20",
+        "order - WRITE_PROTECT 00\ndeliver whole\nfinish ack\nexchange whole whole\nrestore\ndeliver whole\nfinish ack\n",
+        "ran 11\nprotect 00 host confirmed 00\n"),
+    ("20",
+        "order - WRITE_PROTECT 00\ndeliver whole\nfinish ack\nexchange whole whole\nstore\ndeliver whole\nfinish ack\nrestart device\n",
+        "ran 12\nprotect 20 host confirmed 00\n"),
+    // A store and a restore are allowed only at 00h.
+    ("20", "store\ndeliver whole\nfinish ack\nrestart device\n",
+        "ran 8\nprotect 20 host unknown possible any\noutput 0 on commanded 4096/4096 1000000 uV\n"),
+    ("20", "restore\ndeliver whole\nfinish ack\n",
+        "ran 7\nprotect 20 host unknown possible any\noutput 0 on commanded 13517/4096 3300048 uV\n"),
+];
+
 #[test]
-fn stored_words_come_back(rt: HostRuntime) -> Result<(), Fail> {
+fn stored_words_come_back_but_for_write_protect(rt: HostRuntime) -> Result<(), Fail> {
     for &(events, first, output, last) in &ROWS {
         let text = text_with(rt.alloc(), "00", events)?;
         let (end, written) = Engine::Replay.text_of(rt.alloc(), in_pieces(text.as_bytes(), 4096));
@@ -119,37 +102,7 @@ fn stored_words_come_back(rt: HostRuntime) -> Result<(), Fail> {
         let told = std::str::from_utf8(&written)?;
         is_true(&rt, is_told(told, first, output, last), &events);
     }
-    Ok(())
-}
-
-// WRITE_PROTECT at the start, events after the order, what WRITE_PROTECT then is and what the host says of it.
-static PROTECTED: [(&str, &str, &str); 4] = [
-    // WRITE_PROTECT isn't stored: a restore leaves it, and a restart gives its start word.
-    (
-        "20",
-        "order - WRITE_PROTECT 00\ndeliver whole\nfinish ack\nexchange whole whole\nrestore\ndeliver whole\nfinish ack\n",
-        "ran 11\nprotect 00 host confirmed 00\n",
-    ),
-    (
-        "20",
-        "order - WRITE_PROTECT 00\ndeliver whole\nfinish ack\nexchange whole whole\nstore\ndeliver whole\nfinish ack\nrestart device\n",
-        "ran 12\nprotect 20 host confirmed 00\n",
-    ),
-    // A store and a restore are allowed only at 00h.
-    (
-        "20",
-        "store\ndeliver whole\nfinish ack\nrestart device\n",
-        "ran 8\nprotect 20 host unknown possible any\noutput 0 on commanded 4096/4096 1000000 uV\n",
-    ),
-    (
-        "20",
-        "restore\ndeliver whole\nfinish ack\n",
-        "ran 7\nprotect 20 host unknown possible any\noutput 0 on commanded 13517/4096 3300048 uV\n",
-    ),
-];
-
-#[test]
-fn write_protect_is_not_stored(rt: HostRuntime) -> Result<(), Fail> {
+    // WRITE_PROTECT isn't stored.
     for &(protect, events, first) in &PROTECTED {
         let text = text_with(rt.alloc(), protect, events)?;
         let (end, written) = Engine::Replay.text_of(rt.alloc(), in_pieces(text.as_bytes(), 4096));
@@ -160,39 +113,19 @@ fn write_protect_is_not_stored(rt: HostRuntime) -> Result<(), Fail> {
 }
 
 // Texts of `hear` and of `decode`, and what is written.
+#[rattlefmt::skip]
 static HEARD: [(&str, &str, &str); 6] = [
-    (
-        "B0 10 20 5D\nB0 16 2D\n",
-        "taken\nrefused K5 Protected\n",
-        "1000",
-    ),
-    (
-        "B0 05 04 00 21 CD 34 5A\nB0 15 24\nrestart\n",
-        "taken\ntaken\nrestarted\n",
-        "34CD",
-    ),
+    ("B0 10 20 5D\nB0 16 2D\n", "taken\nrefused K5 Protected\n", "1000"),
+    ("B0 05 04 00 21 CD 34 5A\nB0 15 24\nrestart\n", "taken\ntaken\nrestarted\n", "34CD"),
     // RESTORE_USER_ALL by a page that is there, and by one that isn't.
-    (
-        "B0 05 04 00 21 CD 34 5A\nB0 05 02 01 16 2E\n",
-        "taken\ntaken\n",
-        "1000",
-    ),
-    (
-        "B0 05 04 00 21 CD 34 5A\nB0 05 02 02 16 11\n",
-        "taken\nrefused K4 BadPage\n",
-        "34CD",
-    ),
+    ("B0 05 04 00 21 CD 34 5A\nB0 05 02 01 16 2E\n", "taken\ntaken\n", "1000"),
+    ("B0 05 04 00 21 CD 34 5A\nB0 05 02 02 16 11\n", "taken\nrefused K4 BadPage\n", "34CD"),
     // PAGE stays.
-    (
-        "B0 00 01 ED\nB0 15 24\nB0 16 2D\nB0 00 /\n",
-        "taken\ntaken\ntaken\nanswer B1 01 C5\n",
-        "1000",
-    ),
-    (
-        "B0 15 /\nB0 15 24 00\nB0 05 03 00 15 00 32\n",
+    ("B0 00 01 ED\nB0 15 24\nB0 16 2D\nB0 00 /\n", "taken\ntaken\ntaken\nanswer B1 01 C5\n",
+        "1000"),
+    ("B0 15 /\nB0 15 24 00\nB0 05 03 00 15 00 32\n",
         "refused K7 ReadOnly\nrefused K1 Frame F3 Long 3\nrefused K1 Frame F4 WrongCount 2\n",
-        "1000",
-    ),
+        "1000"),
 ];
 
 #[test]
@@ -246,10 +179,10 @@ static LINES_OF_ONE_WORD: [(&str, Result<&str, TextFault>); 7] = [
     ("store", Ok(", Store]")),
     ("  restore  ", Ok(", Restore]")),
     ("restore\r\nstore", Ok(", Restore, Store]")),
-    ("store 0", Err(TextFault::Syntax(13))),
-    ("restore device", Err(TextFault::Syntax(13))),
-    ("Store", Err(TextFault::Syntax(13))),
-    ("store\nstores", Err(TextFault::Syntax(14))),
+    ("store 0", Err(Syntax(13))),
+    ("restore device", Err(Syntax(13))),
+    ("Store", Err(Syntax(13))),
+    ("store\nstores", Err(Syntax(14))),
 ];
 
 #[test]
@@ -257,14 +190,10 @@ fn store_and_restore_are_lines_of_one_word(rt: HostRuntime) -> Result<(), Fail> 
     for &(line, wanted) in &LINES_OF_ONE_WORD {
         expect_event(&rt, line, wanted)?;
     }
-    Ok(())
-}
-
-#[test]
-fn version_1_knows_no_store(rt: HostRuntime) -> Result<(), Fail> {
+    // Version 1 knows no store.
     for event in ["store", "restore", "store 0", "restore ZZ"] {
         let text = joined(rt.alloc(), &[SCENARIO, event, "\n"])?;
-        is_refused(&rt, &text, TextFault::Syntax(13));
+        is_refused(&rt, &text, Syntax(13));
     }
     // What is heard is judged by the table all the same: a byte too many of a known code, and no wrong PEC.
     let text = joined(

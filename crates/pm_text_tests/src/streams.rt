@@ -16,11 +16,7 @@ fn is_called_once(
     kind: ErrorKind,
     wanted: Result<usize, TextFault>,
 ) {
-    let mut source = Source::new(Pieces {
-        fails_at,
-        kind,
-        ..in_pieces(b"abcdef", 3)
-    });
+    let mut source = Source::new(with! { Pieces, in_pieces(b"abcdef", 3); fails_at, kind });
     let result = source.read(&mut [0; 4]);
     equal(rt, &result, &wanted, &fails_at);
     equal(rt, &source.failed(), &wanted.is_err(), &fails_at);
@@ -57,10 +53,7 @@ fn is_read(rt: &(impl Abort + AllocGlobal), piece: usize) -> usize {
 }
 
 fn is_read_to(rt: &(impl Abort + AllocGlobal), piece: usize, fails_at: usize) {
-    let reader = Pieces {
-        fails_at,
-        ..in_pieces(TEXT, piece)
-    };
+    let reader = with! { Pieces, in_pieces(TEXT, piece); fails_at };
     let (result, calls, failed) = read(rt.alloc(), reader);
     is_true(rt, matches!(result, Err(TextFault::Read)) && failed, &1);
     equal(rt, &calls, &fails_at, &piece);
@@ -91,18 +84,10 @@ fn is_put(rt: &(impl Abort + AllocGlobal), piece: usize, calls: usize) {
 }
 
 fn is_put_to(rt: &(impl Abort + AllocGlobal), piece: usize, fails_at: usize, failure: Failure) {
-    let (result, failed, written) = put(Paper {
-        fails_at,
-        failure,
-        ..blank_paper(rt.alloc(), piece)
-    });
+    let (result, failed, written) = put(with! { Paper, blank_paper(rt.alloc(), piece);
+        fails_at, failure });
     is_true(rt, result == Err(TextFault::Write) && failed, &1);
-    equal(
-        rt,
-        &(written.calls, written.flushes),
-        &(fails_at, 0),
-        &piece,
-    );
+    compare! { rt, piece; (written.calls, written.flushes) => (fails_at, 0) }
     let front = fails_at
         .saturating_sub(1)
         .saturating_mul(piece)
@@ -149,18 +134,8 @@ fn is_written_once(rt: &impl Abort, kind: ErrorKind) {
     equal(rt, &sink.into_inner().calls, &1, &kind);
 }
 
-#[test]
-fn a_sink_calls_its_writer_once_and_tells_its_failure(rt: HostRuntime) {
-    for &kind in &KINDS {
-        is_written_once(&rt, kind);
-    }
-}
-
 fn is_flushed(rt: &(impl Abort + AllocGlobal), flush_fails: bool) {
-    let mut sink = Sink::new(Paper {
-        flush_fails,
-        ..blank_paper(rt.alloc(), 1)
-    });
+    let mut sink = Sink::new(with! { Paper, blank_paper(rt.alloc(), 1); flush_fails });
     equal(rt, &sink.flush().is_err(), &flush_fails, &1);
     equal(rt, &sink.failed(), &flush_fails, &2);
     let written = sink.into_inner();
@@ -168,7 +143,10 @@ fn is_flushed(rt: &(impl Abort + AllocGlobal), flush_fails: bool) {
 }
 
 #[test]
-fn a_sink_flushes_when_it_is_asked(rt: HostRuntime) {
+fn a_sink_calls_its_writer_once_and_is_flushed_when_it_is_asked(rt: HostRuntime) {
+    for &kind in &KINDS {
+        is_written_once(&rt, kind);
+    }
     is_flushed(&rt, false);
     is_flushed(&rt, true);
 }
@@ -202,13 +180,10 @@ fn first_word(text: &[u8; 20]) -> Option<u16> {
 
 #[test]
 fn the_example_of_the_root_runs(rt: HostRuntime) {
-    equal(
-        &rt,
-        &first_word(b"# skipped\n 34cd end\n"),
-        &Some(0x34CD),
-        &1,
-    );
-    equal(&rt, &first_word(b"34CDE is not a word."), &None, &2);
+    compare! { &rt;
+        1, first_word(b"# skipped\n 34cd end\n") => Some(0x34CD);
+        2, first_word(b"34CDE is not a word.") => None;
+    }
 }
 
 #[test]
@@ -225,31 +200,18 @@ fn lines_are_numbered_and_words_are_parted_by_spaces(rt: HostRuntime) {
         lines.next_line().is_none() && lines.next_line().is_none(),
         &3,
     );
-    equal(&rt, &lines.next_number(), &9, &4);
-    equal(&rt, &Lines::new(b"").next_number(), &1, &5);
-    equal(
-        &rt,
-        &cut_at(b"a/b/c", b'/'),
-        &(b"a".as_slice(), b"b/c".as_slice()),
-        &6,
-    );
-    equal(
-        &rt,
-        &cut_at(b"abc", b'/'),
-        &(b"abc".as_slice(), b"".as_slice()),
-        &7,
-    );
+    compare! { &rt;
+        4, lines.next_number() => 9;
+        5, Lines::new(b"").next_number() => 1;
+        6, cut_at(b"a/b/c", b'/') => (b"a".as_slice(), b"b/c".as_slice());
+        7, cut_at(b"abc", b'/') => (b"abc".as_slice(), b"".as_slice());
+    }
 }
 
+#[rattlefmt::skip]
 static BYTES: [(&[u8], Option<&[u8]>); 8] = [
-    (b"", Some(b"")),
-    (b" 0a  FF ", Some(b"\x0A\xFF")),
-    (b"0aFf00", Some(b"\x0A\xFF\x00")),
-    (b"0", None),
-    (b"0a f", None),
-    (b"0a 0g", None),
-    (b"0a\t", None),
-    (b"0a 0A 0x", None),
+    (b"", Some(b"")), (b" 0a  FF ", Some(b"\x0A\xFF")), (b"0aFf00", Some(b"\x0A\xFF\x00")),
+    (b"0", None), (b"0a f", None), (b"0a 0g", None), (b"0a\t", None), (b"0a 0A 0x", None),
 ];
 
 // The bytes of a line follow what was there, or nothing is added.

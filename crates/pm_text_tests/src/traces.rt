@@ -22,28 +22,19 @@ fn is_decoded(rt: &(impl Abort + AllocGlobal), trace: &str, text: &str, is_clean
     equal(rt, &written.as_slice(), &text.as_bytes(), &trace);
 }
 
+#[rattlefmt::skip]
 static SAID: [(&str, &str, bool); 5] = [
     ("", "lines 0 accepted 0 faults 0 bad 0\n", true),
-    (
-        "\n\r\n  \n# x\r\n",
-        "lines 0 accepted 0 faults 0 bad 0\n",
-        true,
-    ),
-    (
-        "b010 80 34\r",
+    ("\n\r\n  \n# x\r\n", "lines 0 accepted 0 faults 0 bad 0\n", true),
+    ("b010 80 34\r",
         "1 58 WRITE_PROTECT write 80\ncount WRITE_PROTECT 1\nlines 1 accepted 1 faults 0 bad 0\n",
-        true,
-    ),
-    (
-        "B0 7E / B1 80 00\nB0 20/B1 14 ED\n\nB0 03 47\nB0 20 / B1 14 ED\n",
+        true),
+    ("B0 7E / B1 80 00\nB0 20/B1 14 ED\n\nB0 03 47\nB0 20 / B1 14 ED\n",
         "1 58 STATUS_CML read 80\n2 58 VOUT_MODE read 14\n4 58 write F5 WrongPec 2\n5 58 VOUT_MODE read 14\ncount STATUS_CML 1\ncount VOUT_MODE 2\nlines 4 accepted 3 faults 1 bad 0\n",
-        true,
-    ),
-    (
-        "  b010 8034  \nB0 1\r0 80 34\nb0\t10 80 34\nB 010 80 34\n#b0 10 80 34\nB0108034\n",
+        true),
+    ("  b010 8034  \nB0 1\r0 80 34\nb0\t10 80 34\nB 010 80 34\n#b0 10 80 34\nB0108034\n",
         "1 58 WRITE_PROTECT write 80\n2 X2 BadHex\n3 X2 BadHex\n4 X2 BadHex\n6 58 WRITE_PROTECT write 80\ncount WRITE_PROTECT 2\nlines 5 accepted 2 faults 0 bad 3\n",
-        false,
-    ),
+        false),
 ];
 
 #[test]

@@ -5,7 +5,6 @@ use crate::run::{run_on, run_with};
 use crate::{blank_paper, in_pieces};
 use pm_tool::Source;
 use std::process::Abort;
-use std::test::Fail;
 
 static MISSING: &str = "error: 'pmb' requires a subcommand but one was not provided
   [subcommands: hear, replay, decode, check, number]
@@ -269,16 +268,6 @@ fn is_unknown(rt: &(impl Abort + AllocGlobal), words: &[&str], errors: &str) {
     is_true(rt, found.is(2, "", errors), &words);
 }
 
-#[test]
-fn faulty_command_lines_are_told_on_standard_error(rt: HostRuntime) {
-    is_unknown(&rt, &["pmb"], MISSING);
-    is_unknown(&rt, &["pmb", "listen"], UNKNOWN);
-    is_unknown(&rt, &["pmb", "number", "--bits=1"], NO_SUCH_OPTION);
-    is_unknown(&rt, &["pmb", "number", "--word"], NO_VALUE);
-    is_unknown(&rt, &["pmb", "number", "--word=1", "--word=2"], TWICE);
-    is_unknown(&rt, &["pmb", "decode", "--bits"], NO_OPTION_OF_DECODE);
-}
-
 // Words that ask for help, which is printed.
 fn is_help(rt: &(impl Abort + AllocGlobal), words: &[&str], output: &str) {
     let found = run_on(rt.alloc(), words, "");
@@ -286,7 +275,15 @@ fn is_help(rt: &(impl Abort + AllocGlobal), words: &[&str], output: &str) {
 }
 
 #[test]
-fn help_is_printed(rt: HostRuntime) {
+fn help_and_faulty_command_lines_are_printed(rt: HostRuntime) {
+    // Faulty command lines are told on standard error.
+    is_unknown(&rt, &["pmb"], MISSING);
+    is_unknown(&rt, &["pmb", "listen"], UNKNOWN);
+    is_unknown(&rt, &["pmb", "number", "--bits=1"], NO_SUCH_OPTION);
+    is_unknown(&rt, &["pmb", "number", "--word"], NO_VALUE);
+    is_unknown(&rt, &["pmb", "number", "--word=1", "--word=2"], TWICE);
+    is_unknown(&rt, &["pmb", "decode", "--bits"], NO_OPTION_OF_DECODE);
+    // Help is printed.
     is_help(&rt, &["pmb", "--help"], HELP);
     is_help(&rt, &["pmb", "hear", "--help"], HEAR_HELP);
     is_help(&rt, &["pmb", "replay", "--help"], REPLAY_HELP);

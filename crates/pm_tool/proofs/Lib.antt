@@ -1,4 +1,2 @@
 pub mod Texts
 pub mod Options
-pub mod OneText
-pub mod RefusedLines

@@ -26,9 +26,9 @@ use Rattle.clap.proofs.WalkLemmas.{both, walk_stopped}
 use Rattle.pm_limits.specs.declared.part_registers.PartRegisters.{PartRegisters}
 use Rattle.pm_lines.specs.Digits.{are_digits, decimal_of, digit, fits, natural_of, place_sum, signed_of}
 use Rattle.pm_log.specs.Lacks.{lacking_more}
-use Rattle.pm_tool.specs.Commandline.{Given, NumberOption, format_option, is_named, is_once, micro_option, number_words, option_name}
+use Rattle.pm_tool.specs.Commandline.{Given, NumberOption, format_option, is_option_named, is_once, micro_option, number_words, option_name}
 use Rattle.pm_tool.specs.Commandline.{option_word, pmb, word_option}
-use Rattle.pm_tool.specs.Lacking.{lacking_named, lacks_by, lacks_names, lacks_text, lacks_texts}
+use Rattle.pm_tool.specs.Lacking.{lacking_named, lacks_by, lacks_names, lacks_in_text, lacks_texts}
 use Rattle.pm_tool.specs.Question.{before_parts, direct_format, exponent_format, format_by, is_colon, is_comma, items, parts, parts_by}
 use Rattle.pm_tool.specs.Question.{Text as QuestionText}
 
@@ -112,12 +112,12 @@ none_or false b e = (refl, e)
 
 -- after a use of an option, the other options that were new still are
 all_new_after : (one : Given) (rows : List Row) (given : List Given) → list_all (is_new rows) given ≡ true
-    → not (list_any (is_named (option_name one.option)) given) ≡ true
+    → not (list_any (is_option_named (option_name one.option)) given) ≡ true
     → list_all (is_new (rows ++ row one ∷ [])) given ≡ true
 all_new_after one rows [] new others = refl
 all_new_after one rows (next ∷ rest) new others =
     let parts = both (is_new rows next) _ new in
-    let apart = none_or (is_named (option_name one.option) next) _ others in
+    let apart = none_or (is_option_named (option_name one.option) next) _ others in
     let first : is_new (rows ++ row one ∷ []) next ≡ true =
     ap not (has_row-push (option_name next.option) rows (row one))
     ∙ new_after (has_row (option_name next.option) rows) _ parts.0 (ap not (same_either_way one.option next.option) ∙ apart.0) in
@@ -161,7 +161,7 @@ walk_over : (given : List Given) (rows : List Row) → list_all (is_new rows) gi
 walk_over [] rows new once = ap with_rows (sym (append-nil rows))
 walk_over (one ∷ rest) rows new once =
     let parts = both (is_new rows one) _ new in
-    let apart = both (not (list_any (is_named (option_name one.option)) rest)) _ once in
+    let apart = both (not (list_any (is_option_named (option_name one.option)) rest)) _ once in
     ap (λ w. fold (walked number_built.rules []) w (map option_word rest)) (stepped one rows (is_false _ parts.0))
     ∙ walk_over rest (rows ++ row one ∷ []) (all_new_after one rows rest parts.1 apart.0) apart.1
     ∙ ap with_rows (append_assoc rows (row one ∷ []) (map row rest))
@@ -173,7 +173,7 @@ unfolding walk_fault
 walk_passes [] rows new once = refl
 walk_passes (one ∷ rest) rows new once =
     let parts = both (is_new rows one) _ new in
-    let apart = both (not (list_any (is_named (option_name one.option)) rest)) _ once in
+    let apart = both (not (list_any (is_option_named (option_name one.option)) rest)) _ once in
     let none = is_false _ parts.0 in
     past _ _ (turn_passes one.option one.text rows none)
     ∙ ap (λ w. walk_fault number_built [] w (map option_word rest)) (stepped one rows none)
@@ -213,13 +213,13 @@ defaults_pass (a ∷ rest) rows none =
 
 -- the first text of an option's row is that of its first use
 pub first_text : (name : WalkText) (given : List Given)
-    → first_of name (map row given) ≡ option_map (λ one. one.text) (find (is_named name) given)
+    → first_of name (map row given) ≡ option_map (λ one. one.text) (find (is_option_named name) given)
 first_text name [] = refl
-first_text name (one ∷ rest) = go (is_named name one) (first_text name rest)
+first_text name (one ∷ rest) = go (is_option_named name one) (first_text name rest)
   where
-    go : (b : Bool) → first_of name (map row rest) ≡ option_map (λ one. one.text) (find (is_named name) rest)
+    go : (b : Bool) → first_of name (map row rest) ≡ option_map (λ one. one.text) (find (is_option_named name) rest)
         → option_and_then (λ (r : Row). slice_get r.values 0) (cond b (Some (row one)) (find (λ r. bytes_eq r.id name) (map row rest)))
-        ≡ option_map (λ (u : Given). u.text) (cond b (Some one) (find (is_named name) rest))
+        ≡ option_map (λ (u : Given). u.text) (cond b (Some one) (find (is_option_named name) rest))
     go true e = refl
     go false e = e
 
@@ -535,7 +535,7 @@ fewer_names left name after is =
 pub too_many : (lacks : List PartRegisters) (text addr names : QuestionText) (more : Option (Bor QuestionText × Bor QuestionText))
     → parts text ≡ addr ∷ parts names →
     MatchOption more (parts names ≡ names ∷ []) (λ found. parts names ≡ found.0.now ∷ parts found.1.now) → is_some more ≡ true →
-    None ≡ lacks_text lacks text
+    None ≡ lacks_in_text lacks text
 too_many lacks text addr names None first next some = absurd (cc)
 too_many lacks text addr names (Some (second, rest)) first next some =
     let p = some_parts is_colon rest.now in
@@ -556,7 +556,7 @@ text_taken xs i d small =
 
 module _ (xs : List (Bor QuestionText)) (i : ℕ) (d : Bor QuestionText) (small : i < length xs) (lacks new : List PartRegisters)
     (result : Bool)
-    (is : added result new ≡ lacks_text lacks (get_or xs i d).now) where
+    (is : added result new ≡ lacks_in_text lacks (get_or xs i d).now) where
   -- a text that is none
   pub no_text : result ≡ false → lacks_texts lacks (drop i (map now_of xs)) ≡ None
   no_text failed =

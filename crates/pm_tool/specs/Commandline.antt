@@ -63,8 +63,8 @@ Asks name rows (Number format word micro) = (name ≡ codes "number")
     × (option_map (λ s. s.now) micro ≡ first_of (codes "micro") rows)
 
 -- what `decode` chooses by its options
-abbrev pub Decodes : TellTexts → Chosen → Type 0
-Decodes given chosen = chosen ≡ (if is_any given then Tell given else Decode)
+abbrev pub ChoosesDecode : TellTexts → Chosen → Type 0
+ChoosesDecode given chosen = chosen ≡ (if is_any given then Tell given else Decode)
 
 -- the call gave a value of which P holds, or memory ran out
 abbrev pub UnlessMemory : {T : Type 0} → Result T Error → (T → Type 0) → Type 0
@@ -89,8 +89,8 @@ pub record Given : Type 0 where
   pub text : Text
 
 -- the use is one of the option with this name
-abbrev pub is_named : Text → Given → Bool
-is_named name one = bytes_eq (option_name one.option) name
+abbrev pub is_option_named : Text → Given → Bool
+is_option_named name one = bytes_eq (option_name one.option) name
 
 -- `--NAME=TEXT`
 abbrev pub option_word : Given → Text
@@ -103,11 +103,11 @@ number_words program given = program ∷ codes "number" ∷ map option_word give
 -- no option is used twice
 abbrev pub is_once : List Given → Bool
 is_once [] = true
-is_once (one ∷ rest) = not (list_any (is_named (option_name one.option)) rest) && is_once rest
+is_once (one ∷ rest) = not (list_any (is_option_named (option_name one.option)) rest) && is_once rest
 
 -- the text of an option, if it is used
 abbrev pub text_of : NumberOption → List Given → Option Text
-text_of option given = option_map (λ one. one.text) (find (is_named (option_name option)) given)
+text_of option given = option_map (λ one. one.text) (find (is_option_named (option_name option)) given)
 
 -- `number` is chosen, with the texts that were given for its options
 abbrev pub HasValuesOf : List Given → Chosen → Type 0

@@ -30,13 +30,13 @@ use Rattle.pm_log.specs.declared.checking.LogEnd.TheVariants.{Accepted as LogAcc
 use Rattle.pm_text.specs.Replay.{replaying}
 use Rattle.pm_text.specs.declared.replays.ReplayEnd.{ReplayEnd}
 use Rattle.pm_text.specs.declared.replays.ReplayEnd.TheVariants.{Ran as AllTaken, Stopped}
-use Rattle.pm_tool.specs.Refusals.{Says, no_words, no_words_status, program_line, text_refusal}
+use Rattle.pm_tool.specs.Refusals.{Says, bad_arguments_words, no_words_status, program_line, text_refusal}
 use Rattle.pm_tool.specs.Usage.{usage_status, IsSaid}
 use Rattle.pm_tool.specs.Commandline.{Asks, pmb}
-use Rattle.pm_tool.specs.NumberFaults.{refusal_status, refusal_words}
+use Rattle.pm_tool.specs.NumberFaults.{refusal_status, number_refusal_words}
 use Rattle.pm_tool.specs.NumberText.{IsNumberText, RefusesNumber}
-use Rattle.pm_tool.specs.Outcome.{hearing}
-use Rattle.pm_tool.specs.Question.{asked_by}
+use Rattle.pm_tool.specs.Outcome.{hear_engine}
+use Rattle.pm_tool.specs.Question.{question_of_options}
 use Rattle.pm_tool.specs.Telling.{IsAsked, tell_fault_status, tell_fault_words}
 use Rattle.pm_tool.specs.declared.commandline.tell_fault.TellFault.{TellFault}
 use Rattle.pm_tool.specs.declared.commandline.telling.TellTexts.{TellTexts}
@@ -80,13 +80,13 @@ abbrev pub refusal_line : List ℕ → List ℕ
 refusal_line words = program_line (codes "pmb") words
 
 -- what standard error gets, if anything
-abbrev pub said_by : End → Option (List ℕ)
-said_by (Printed status text) = None
-said_by (Hinted status text words) = Some (refusal_line words)
-said_by (CutShort text) = Some (refusal_line (fault_words Write))
-said_by (Refused status words) = Some (refusal_line words)
-said_by (Broken text words) = Some (refusal_line words)
-said_by (Misused text) = Some text
+abbrev pub said_to_errors : End → Option (List ℕ)
+said_to_errors (Printed status text) = None
+said_to_errors (Hinted status text words) = Some (refusal_line words)
+said_to_errors (CutShort text) = Some (refusal_line (fault_words Write))
+said_to_errors (Refused status words) = Some (refusal_line words)
+said_to_errors (Broken text words) = Some (refusal_line words)
+said_to_errors (Misused text) = Some text
 
 -- a prefix of the text was written, or all of it
 abbrev pub AppendsSome : Option (List ℕ) → Option (List ℕ) → List ℕ → Type 0
@@ -151,8 +151,8 @@ EngineRuns engine status_in remaining old new (Misused text) = ⊥
 -- ---- `decode` with options
 
 -- the run of only a reader
-abbrev pub reading : {R : Type 0} → (R → Option (List ℕ)) → Held R → Held R → Run R (Unit {0})
-reading remaining old new = over remaining old new (λ _. None) (record { inner = tt; failed = false })
+abbrev pub reader_run : {R : Type 0} → (R → Option (List ℕ)) → Held R → Held R → Run R (Unit {0})
+reader_run remaining old new = over remaining old new (λ _. None) (record { inner = tt; failed = false })
     (record { inner = tt; failed = false })
 
 -- what is said of a telling that may be wrong
@@ -165,9 +165,9 @@ hint_words NoPec = codes "no line is a good packet: where packets have no PEC, g
 hint_words (Paging line) = codes "line " ++ (decimal line ++ codes " writes PAGE: --pages shows which output each packet reaches")
 
 -- how a run ends whose text was written whole, by what may be wrong
-abbrev pub told_as : ℕ → List ℕ → Option Hint → End
-told_as status text None = Printed status text
-told_as status text (Some hint) = Hinted status text (hint_words hint)
+abbrev pub run_end_as : ℕ → List ℕ → Option Hint → End
+run_end_as status text None = Printed status text
+run_end_as status text (Some hint) = Hinted status text (hint_words hint)
 
 -- why a trace isn't shown: one that is too long for these options is said so
 abbrev pub untold : Bool → TextFault → Unwritten
@@ -192,18 +192,18 @@ module _ {R : Type 0} (options : TellOptions) (remaining : R → Option (List �
   abbrev pub TellsWhole : End → Type 0
   TellsWhole end = IsFalse new.failed × (input : List ℕ)
       × GaveAll (most_bytes options.long) (capture_text options) (said_text options) (capture_end options)
-      (reading remaining old new) input
-      × (end ≡ told_as (decode_status (capture_end options input).end) (capture_text options input) (capture_end options input).hint)
+      (reader_run remaining old new) input
+      × (end ≡ run_end_as (decode_status (capture_end options input).end) (capture_text options input) (capture_end options input).hint)
 
   abbrev pub TellRuns : End → Type 0
   TellRuns (Printed status text) = TellsWhole (Printed status text)
   TellRuns (Hinted status text words) = TellsWhole (Hinted status text words)
   TellRuns (CutShort text) = IsCut (most_bytes options.long) (capture_text options) (said_text options)
-      (capture_end options) (reading remaining old new) text
+      (capture_end options) (reader_run remaining old new) text
   TellRuns (Broken text words) = (fault : TextFault) × (words ≡ unwritten_words (untold options.long fault))
       × (IsTrue new.failed ↔ (fault ≡ Read)) × (front : List ℕ)
       × Breaks (most_bytes options.long) (capture_text options) (said_text options) (capture_end options)
-      (reading remaining old new) fault front
+      (reader_run remaining old new) fault front
       × IsTold (said_text options) fault front text
   TellRuns (Refused status words) = ⊥
   TellRuns (Misused text) = ⊥
@@ -228,7 +228,7 @@ CheckRuns allowed remaining old new (Misused text) = ⊥
 
 -- how a command ends that reads one text and writes another, by what its reader gave
 abbrev pub CommandRuns : {R : Type 0} → TextCommand → (R → Option (List ℕ)) → Held R → Held R → End → Type 0
-CommandRuns command.Hear remaining old new end = EngineRuns hearing (λ _. 0) remaining old new end
+CommandRuns command.Hear remaining old new end = EngineRuns hear_engine (λ _. 0) remaining old new end
 CommandRuns command.Replay remaining old new end = EngineRuns replaying replay_status remaining old new end
 CommandRuns command.Decode remaining old new end = EngineRuns decoding decode_status remaining old new end
 CommandRuns (command.Tell options) remaining old new end = TellRuns options remaining old new end
@@ -260,7 +260,7 @@ NumberEnds asked (Printed status text) = (status ≡ 0) × IsNumberText asked te
 NumberEnds asked (Hinted status text words) = ⊥
 NumberEnds asked (CutShort text) = IsNumberText asked text
 NumberEnds asked (Refused status words) = (fault : NumberFault) × (status ≡ refusal_status fault)
-    × (words ≡ refusal_words fault) × NumberRefuses asked fault
+    × (words ≡ number_refusal_words fault) × NumberRefuses asked fault
 NumberEnds asked (Broken text words) = ⊥
 NumberEnds asked (Misused text) = ⊥
 
@@ -282,7 +282,7 @@ ChoiceEnds remaining old new Decode end = CommandRuns command.Decode remaining o
 ChoiceEnds remaining old new (Tell given) end = TellEnds remaining old new given end
 ChoiceEnds remaining old new (Check lacks) end = CheckEnds remaining old new lacks end
 ChoiceEnds remaining old new (NumberChosen format word micro) end = (new ≡ old)
-    × NumberEnds (asked_by format word micro) end
+    × NumberEnds (question_of_options format word micro) end
 
 -- how a command line ends of which the parser finds a fault of this kind: help or the version that was
 -- asked for is printed, and what is said of any other fault is the parser's own text; each says something
@@ -314,7 +314,7 @@ WordsEnd remaining old new words end =
 
 -- how a run ends whose arguments couldn't be had as words
 abbrev pub no_words_end : IoKind → End
-no_words_end kind = Refused (no_words_status kind) (no_words kind)
+no_words_end kind = Refused (no_words_status kind) (bad_arguments_words kind)
 
 -- how a run ends, by its words or why there are none
 abbrev pub RunEnds : {R : Type 0} → (R → Option (List ℕ)) → Held R → Held R → Result (List Text) IoKind → End → Type 0
@@ -328,7 +328,7 @@ pub record IsEnd {W E : Type 0} (out : W → Option (List ℕ)) (err : E → Opt
     (output output' : Held W) (errors errors' : Held E) (status : ℕ) (end : End) : Type 0 where
   pub status_is : status ≡ status_of end
   pub printed : Prints out output output' end
-  pub said : SaysAny err errors errors' (said_by end)
+  pub said : SaysAny err errors errors' (said_to_errors end)
 
 -- a text that was written is handed on, or standard output failed as it should be
 abbrev pub IsDone : {W E : Type 0} → (E → Option (List ℕ)) → Held W → Held E → Held E → ℕ → ℕ → Type 0
@@ -353,6 +353,6 @@ IsToldDone err output errors errors' wanted hint status =
 abbrev pub Runs : {W : Type 0} → (End → Type 0) → (W → Option (List ℕ)) → Held W → Held W → Result Written Unwritten → Type 0
 Runs ends contents old new (Ok written) = (IsFalse new.failed) × (text : List ℕ)
     × Appends (contents old.inner) (contents new.inner) text
-    × ends (told_as written.status text written.hint) × ends (CutShort text)
+    × ends (run_end_as written.status text written.hint) × ends (CutShort text)
 Runs ends contents old new (Err refusal) = (end : End) × ends end × (status_of end ≡ 1) × Prints contents old new end
-    × (said_by end ≡ Some (refusal_line (unwritten_words refusal)))
+    × (said_to_errors end ≡ Some (refusal_line (unwritten_words refusal)))

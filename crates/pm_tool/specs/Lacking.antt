@@ -33,13 +33,13 @@ abbrev pub lacks_by : List PartRegisters → List Text → Option (List PartRegi
 lacks_by lacks (addr ∷ names ∷ []) = lacks_at lacks (hex_of 2 addr) names
 lacks_by lacks _ = None
 
-abbrev pub lacks_text : List PartRegisters → Text → Option (List PartRegisters)
-lacks_text lacks text = lacks_by lacks (parts text)
+abbrev pub lacks_in_text : List PartRegisters → Text → Option (List PartRegisters)
+lacks_in_text lacks text = lacks_by lacks (parts text)
 
 -- one text after another
 abbrev pub lacks_texts : List PartRegisters → List Text → Option (List PartRegisters)
 lacks_texts lacks [] = Some lacks
-lacks_texts lacks (text ∷ texts) = option_and_then (λ more. lacks_texts more texts) (lacks_text lacks text)
+lacks_texts lacks (text ∷ texts) = option_and_then (λ more. lacks_texts more texts) (lacks_in_text lacks text)
 
 -- what the texts say that parts lack; None if one of them is none
 abbrev pub lacks_in : List PartRegisters → Lacks

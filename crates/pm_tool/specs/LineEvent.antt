@@ -4,6 +4,6 @@ use Rattle.pm_device.specs.Effect.{Event, Hearing, Restarted}
 use Rattle.pm_tool.specs.declared.script.line.LineEvent.{LineEvent}
 use Rattle.pm_tool.specs.declared.script.line.LineEvent.TheVariants.{Frame, Restart}
 
-abbrev pub event_of : LineEvent → List ℕ → Event
-event_of (Frame ending) bytes = Hearing bytes ending
-event_of Restart bytes = Restarted
+abbrev pub event_of_line : LineEvent → List ℕ → Event
+event_of_line (Frame ending) bytes = Hearing bytes ending
+event_of_line Restart bytes = Restarted

@@ -8,13 +8,13 @@ use Rattle.pm_tool.specs.declared.numbers.fault.NumberFault.TheVariants.{OneOf, 
 use Rattle.pm_tool.specs.declared.numbers.fault.NumberFault.TheVariants.{Micro, Num, Text}
 
 -- what is said of a refusal
-abbrev pub refusal_words : NumberFault → List ℕ
-refusal_words OneOf = codes "give one of --word and --micro"
-refusal_words Format = codes "bad format"
-refusal_words Word = codes "bad word"
-refusal_words Micro = codes "bad micro"
-refusal_words (Num fault) = num_fault_words fault
-refusal_words (Text fault) = fault_words fault
+abbrev pub number_refusal_words : NumberFault → List ℕ
+number_refusal_words OneOf = codes "give one of --word and --micro"
+number_refusal_words Format = codes "bad format"
+number_refusal_words Word = codes "bad word"
+number_refusal_words Micro = codes "bad micro"
+number_refusal_words (Num fault) = num_fault_words fault
+number_refusal_words (Text fault) = fault_words fault
 
 -- the status with which the program ends: 2 for a fault of the command line
 abbrev pub refusal_status : NumberFault → ℕ

@@ -83,9 +83,9 @@ RefusesNumber (Ok asked) fault = Refuses asked fault
 -- ---- the answer
 
 -- the word itself, or the one for this many millionths
-abbrev pub IsWordFor : (ℕ → Ratio) → (ℕ → ℕ) → Asked → ℕ → Type 0
-IsWordFor value rank (Word given) word = word ≡ given
-IsWordFor value rank (Nearest k) word = IsNearest value rank (micros k) word
+abbrev pub IsAskedWord : (ℕ → Ratio) → (ℕ → ℕ) → Asked → ℕ → Type 0
+IsAskedWord value rank (Word given) word = word ≡ given
+IsAskedWord value rank (Nearest k) word = IsNearest value rank (micros k) word
 
 -- k is the greatest whole number of millionths that isn't above the value
 pub record IsFloorMicro (value : Ratio) (k : ℤ) : Type 0 where
@@ -94,15 +94,15 @@ pub record IsFloorMicro (value : Ratio) (k : ℤ) : Type 0 where
 
 pub record IsAnswer (value : ℕ → Ratio) (rank : ℕ → ℕ) (asked : Asked) (answer : Answer)
     : Type 0 where
-  pub word : IsWordFor value rank asked answer.word
+  pub word : IsAskedWord value rank asked answer.word
   pub value_is : answer.value ≡ value answer.word
   pub floor : IsFloorMicro answer.value answer.millionths
 
 -- ---- the line
 
 -- `word HHHH value NUM/DEN micro K` and LF
-abbrev pub line_of : Answer → List ℕ
-line_of answer = codes "word " ++ hex_word answer.word
+abbrev pub number_line_of : Answer → List ℕ
+number_line_of answer = codes "word " ++ hex_word answer.word
     ++ codes " value " ++ signed_decimal answer.value.num ++ codes "/" ++ decimal answer.value.den
     ++ codes " micro " ++ signed_decimal answer.millionths ++ codes "\n"
 
@@ -111,7 +111,7 @@ abbrev pub IsNumberText : Result Question NumberFault → List ℕ → Type 0
 IsNumberText (Err refusal) text = ⊥
 IsNumberText (Ok asked) text = (answer : Answer)
     × IsAnswer (value_in asked.format) (rank_in asked.format) asked.asked answer
-    × (text ≡ line_of answer)
+    × (text ≡ number_line_of answer)
 
 -- ---- which refusals come
 

@@ -11,8 +11,8 @@ text_alone (Ok text) = Ok (text, tt)
 text_alone (Err fault) = Err fault
 
 -- `hear` as an engine: it writes its text whole, and nothing before
-abbrev pub hearing : Engine (Unit {0})
-hearing = record { whole = λ input. text_alone (printed_text input); early = None }
+abbrev pub hear_engine : Engine (Unit {0})
+hear_engine = record { whole = λ input. text_alone (printed_text input); early = None }
 
 -- `hear` sets nothing up
 abbrev pub IsOfHear : TextFault → Type 0

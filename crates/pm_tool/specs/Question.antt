@@ -15,6 +15,7 @@ use Rattle.pm_tool.specs.declared.numbers.question.Asked.TheVariants.{Word, Near
 use Rattle.pm_tool.specs.declared.numbers.question.Question.{Question}
 use Rattle.pm_tool.specs.declared.numbers.fault.NumberFault.{NumberFault}
 use Rattle.pm_tool.specs.declared.numbers.fault.NumberFault.TheVariants as fault
+use Rattle.pm_trace.specs.Trace.{is_slash}
 
 abbrev pub Text : Type 0
 Text = List ℕ
@@ -73,9 +74,6 @@ HasExponent (Ulinear16 n) = IsExponent n
 HasExponent (Direct m b r) = ⊤
 
 -- a format in which no slash (47) stands for a colon, as `number` has formats
-abbrev pub is_slash : ℕ → Bool
-is_slash c = c == 47
-
 abbrev pub plain_format_of : Text → Option FormatText
 plain_format_of text = if list_any is_slash text then None else format_of text
 
@@ -86,24 +84,24 @@ abbrev pub text_at : Option (Bor Text) → Option Text
 text_at = option_map (λ s. s.now)
 
 -- a value, or the fault that stands for its absence
-abbrev pub or_fault : {T : Type 0} → Option T → NumberFault → Result T NumberFault
-or_fault (Some x) fault = Ok x
-or_fault None fault = Err fault
+abbrev pub or_number_fault : {T : Type 0} → Option T → NumberFault → Result T NumberFault
+or_number_fault (Some x) fault = Ok x
+or_number_fault None fault = Err fault
 
-abbrev pub asked_of : Option FormatText → Result Asked NumberFault → Result Question NumberFault
-asked_of None asked = Err fault.Format
-asked_of (Some format) (Err f) = Err f
-asked_of (Some format) (Ok asked) = Ok (record { format = format; asked = asked })
+abbrev pub question_of_format : Option FormatText → Result Asked NumberFault → Result Question NumberFault
+question_of_format None asked = Err fault.Format
+question_of_format (Some format) (Err f) = Err f
+question_of_format (Some format) (Ok asked) = Ok (record { format = format; asked = asked })
 
 -- the question of three texts, of which just one of the word and the millionths is there, or the
 -- first fault: OneOf, then Format, then Word or Micro
 abbrev pub question : Text → Option Text → Option Text → Result Question NumberFault
 question format (Some word) None =
-    asked_of (plain_format_of format) (or_fault (option_map (λ w. Word w) (hex_of 4 word)) fault.Word)
-question format None (Some micro) = asked_of (plain_format_of format)
-    (or_fault (option_map (λ k. Nearest k) (signed_of 64 micro)) fault.Micro)
+    question_of_format (plain_format_of format) (or_number_fault (option_map (λ w. Word w) (hex_of 4 word)) fault.Word)
+question format None (Some micro) = question_of_format (plain_format_of format)
+    (or_number_fault (option_map (λ k. Nearest k) (signed_of 64 micro)) fault.Micro)
 question format _ _ = Err fault.OneOf
 
 -- the question of the texts that options have
-abbrev pub asked_by : Bor Text → Option (Bor Text) → Option (Bor Text) → Result Question NumberFault
-asked_by format word micro = question format.now (text_at word) (text_at micro)
+abbrev pub question_of_options : Bor Text → Option (Bor Text) → Option (Bor Text) → Result Question NumberFault
+question_of_options format word micro = question format.now (text_at word) (text_at micro)

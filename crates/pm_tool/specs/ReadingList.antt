@@ -6,7 +6,7 @@ use Rattle.pm_lines.specs.Digits.{hex_of}
 use Rattle.pm_num.specs.AnyFormat.{Shape, InLinear11, InUlinear16, shape_of}
 use Rattle.pm_table.specs.Format.{shape_in}
 use Rattle.pm_table.specs.declared.vout_mode.VoutMode.TheVariants as mode
-use Rattle.pm_trace.specs.Taught.{is_reading}
+use Rattle.pm_trace.specs.Taught.{is_reading_code}
 use Rattle.pm_trace.specs.declared.formats.GivenFormat.{GivenFormat}
 use Rattle.pm_tool.specs.Question.{Text, format_by, items, parts}
 use Rattle.pm_tool.specs.declared.commandline.readings.Listed.{Listed}
@@ -50,7 +50,7 @@ is_place (Some addr) = not (nat_lt addr 0x08 || nat_lt 0x77 addr)
 -- READ_VIN, READ_IOUT or READ_TEMPERATURE_1, or none
 abbrev pub is_asked_for : Option ℕ → Bool
 is_asked_for None = true
-is_asked_for (Some code) = is_reading code
+is_asked_for (Some code) = is_reading_code code
 
 abbrev pub entry_at : Option ℕ → Option ℕ → Shape → Entry
 entry_at addr code shape = record { addr = addr; code = code; shape = shape }
@@ -79,8 +79,8 @@ entry_by listed (name ∷ []) = entry_for listed None None (format_by (name ∷ 
 entry_by listed (first ∷ second ∷ more) = entry_from listed (hex_of 2 first) first second more
 
 -- an entry: `FORMAT`, and `AA:FORMAT` of voltages, `CC:FORMAT` or `AA:CC:FORMAT` of readings
-abbrev pub entry_of : Listed → Text → Option Entry
-entry_of listed text = entry_by listed (parts text)
+abbrev pub listed_entry : Listed → Text → Option Entry
+listed_entry listed text = entry_by listed (parts text)
 
 -- one more entry before the others
 abbrev pub before_entries : Option Entry → Option (List Entry) → Option (List Entry)
@@ -91,11 +91,11 @@ before_entries (Some entry) entries = option_map (λ es. entry ∷ es) entries
 abbrev pub entries_in : Listed → ℕ → List Text → Option (List Entry)
 entries_in listed room [] = Some []
 entries_in listed zero (text ∷ texts) = None
-entries_in listed (suc room) (text ∷ texts) = before_entries (entry_of listed text) (entries_in listed room texts)
+entries_in listed (suc room) (text ∷ texts) = before_entries (listed_entry listed text) (entries_in listed room texts)
 
 -- the entries of a text, one to eight with commas between them
-abbrev pub entries_of : Listed → Text → Option (List Entry)
-entries_of listed text = entries_in listed 8 (items text)
+abbrev pub listed_entries : Listed → Text → Option (List Entry)
+listed_entries listed text = entries_in listed 8 (items text)
 
 -- the entries of what is left of a text, which may be nothing
 abbrev pub entries_left : Listed → ℕ → Option Text → Option (List Entry)

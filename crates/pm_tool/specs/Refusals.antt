@@ -40,6 +40,6 @@ abbrev pub no_words_status : ErrorKind → ℕ
 no_words_status OutOfMemory = 1
 no_words_status _ = 2
 
-abbrev pub no_words : ErrorKind → List ℕ
-no_words OutOfMemory = fault_words Memory
-no_words _ = codes "bad arguments"
+abbrev pub bad_arguments_words : ErrorKind → List ℕ
+bad_arguments_words OutOfMemory = fault_words Memory
+bad_arguments_words _ = codes "bad arguments"

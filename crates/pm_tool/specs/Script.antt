@@ -4,7 +4,7 @@ use Rattle.std.specs.Prelude.{ℕ, Bool, false, not, ◌==◌, if◌then◌else�
 use Rattle.std.specs.List.{after_first, before_first, list_all, list_any, range_with_len}
 use Rattle.pm_device.specs.Effect.{Event, Hearing, Restarted, Reading}
 use Rattle.pm_device.specs.Held.{Held}
-use Rattle.pm_device.specs.History.{next, start_of}
+use Rattle.pm_device.specs.History.{device_next, start_of}
 use Rattle.pm_device.specs.Reply.{reply_of}
 use Rattle.pm_device.specs.declared.converter.Ending.TheVariants.{Stop, Restart}
 use Rattle.pm_model.specs.Settings.{word_at}
@@ -17,11 +17,9 @@ use Rattle.pm_lines.specs.declared.fault.TextFault.{TextFault}
 use Rattle.pm_lines.specs.declared.fault.TextFault.TheVariants.{Syntax, BadHex}
 use Rattle.pm_text.specs.Base.{base}
 use Rattle.pm_tool.specs.HeardText.{reply_words}
+use Rattle.pm_trace.specs.Trace.{is_slash}
 
 -- ---- what a line asks
-
-abbrev pub is_slash : ℕ → Bool
-is_slash byte = byte == 47
 
 -- the first word is this one
 abbrev pub begins_with : List ℕ → List (List ℕ) → Bool
@@ -58,9 +56,9 @@ joined_events (Ok event) (Err fault) = Err fault
 joined_events (Ok event) (Ok events) = Ok (event ∷ events)
 
 -- the events of lines, or the fault of the first faulty one
-abbrev pub events_in : List Numbered → Result (List Event) TextFault
-events_in [] = Ok []
-events_in (line ∷ lines) = joined_events (line_event line) (events_in lines)
+abbrev pub events_of_lines : List Numbered → Result (List Event) TextFault
+events_of_lines [] = Ok []
+events_of_lines (line ∷ lines) = joined_events (line_event line) (events_of_lines lines)
 
 -- ---- what is written
 
@@ -69,8 +67,8 @@ abbrev pub as_line : List ℕ → List ℕ
 as_line words = words ++ codes "\n"
 
 -- the line of an output: its number, and its word of VOUT_COMMAND, the high byte first
-abbrev pub output_line : ℕ → ℕ → List ℕ
-output_line output word = as_line (codes "output " ++ decimal output ++ codes " VOUT_COMMAND "
+abbrev pub output_word_line : ℕ → ℕ → List ℕ
+output_word_line output word = as_line (codes "output " ++ decimal output ++ codes " VOUT_COMMAND "
     ++ hex_word word)
 
 -- the line of an event at a converter that holds this
@@ -80,26 +78,26 @@ event_words held Restarted = codes "restarted"
 event_words held (Reading output code word) = []
 
 -- what a converter holds after events, and the lines of these
-abbrev pub held_after : Held → List Event → Held
-held_after held [] = held
-held_after held (event ∷ events) = held_after (next held event) events
+abbrev pub converter_after : Held → List Event → Held
+converter_after held [] = held
+converter_after held (event ∷ events) = converter_after (device_next held event) events
 
 abbrev pub event_lines : Held → List Event → List ℕ
 event_lines held [] = []
 event_lines held (event ∷ events) =
-    as_line (event_words held event) ++ event_lines (next held event) events
+    as_line (event_words held event) ++ event_lines (device_next held event) events
 
 -- the lines of the outputs
 abbrev pub output_at : Held → ℕ → List ℕ
-output_at held output = output_line output (word_at held.words (Out output VoutCommand))
+output_at held output = output_word_line output (word_at held.words (Out output VoutCommand))
 
-abbrev pub output_lines : Held → List ℕ
-output_lines held = flat_map (output_at held) (range_with_len 0 held.config.count)
+abbrev pub output_word_lines : Held → List ℕ
+output_word_lines held = flat_map (output_at held) (range_with_len 0 held.config.count)
 
 -- the text of events that a converter of the base configuration hears
 abbrev pub heard_text : List Event → List ℕ
 heard_text events =
-    event_lines (start_of base) events ++ output_lines (held_after (start_of base) events)
+    event_lines (start_of base) events ++ output_word_lines (converter_after (start_of base) events)
 
 abbrev pub text_by : Result (List Event) TextFault → Result (List ℕ) TextFault
 text_by (Ok events) = Ok (heard_text events)
@@ -107,4 +105,4 @@ text_by (Err fault) = Err fault
 
 -- the text that is written of an input, or the fault of its first faulty line
 unfoldable pub printed_text : List ℕ → Result (List ℕ) TextFault
-printed_text input = text_by (events_in (unskipped_from 1 input))
+printed_text input = text_by (events_of_lines (unskipped_from 1 input))

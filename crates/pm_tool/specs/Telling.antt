@@ -10,7 +10,7 @@ use Rattle.pm_tool.specs.AddressList.{addresses_asked}
 use Rattle.pm_tool.specs.Options.{list_rule, option_rule}
 use Rattle.pm_lines.specs.Digits.{natural_of}
 use Rattle.pm_tool.specs.Question.{text_at}
-use Rattle.pm_tool.specs.ReadingList.{Entry, entries_of, if_any}
+use Rattle.pm_tool.specs.ReadingList.{Entry, listed_entries, if_any}
 use Rattle.pm_tool.specs.declared.commandline.readings.Listed.TheVariants as listed
 use Rattle.pm_tool.specs.declared.commandline.telling.TellTexts.{TellTexts}
 use Rattle.pm_tool.specs.declared.commandline.tell_fault.TellFault.{TellFault}
@@ -69,7 +69,7 @@ listed_or_fault fault None = Err fault
 abbrev pub vout_of : Bool → Option Text → Result (List Entry) TellFault
 vout_of values None = Ok []
 vout_of false (Some text) = Err VoutAlone
-vout_of true (Some text) = listed_or_fault Vout (entries_of listed.Voltages text)
+vout_of true (Some text) = listed_or_fault Vout (listed_entries listed.Voltages text)
 
 abbrev pub vout_asked : TellTexts → Result (List Entry) TellFault
 vout_asked given = vout_of given.values (text_at given.vout)
@@ -77,7 +77,7 @@ vout_asked given = vout_of given.values (text_at given.vout)
 abbrev pub readings_of : Bool → Option Text → Result (List Entry) TellFault
 readings_of values None = Ok []
 readings_of false (Some text) = Err ReadingsAlone
-readings_of true (Some text) = listed_or_fault Readings (entries_of listed.Readings text)
+readings_of true (Some text) = listed_or_fault Readings (listed_entries listed.Readings text)
 
 abbrev pub readings_asked : TellTexts → Result (List Entry) TellFault
 readings_asked given = readings_of given.values (text_at given.readings)
@@ -88,8 +88,8 @@ readings_asked given = readings_of given.values (text_at given.readings)
 abbrev pub pause_if_short : ℕ → Option ℕ
 pause_if_short pause = if nat_lt 1000000 pause then None else Some pause
 
-abbrev pub pause_of : List ℕ → Option ℕ
-pause_of text = if nat_lt 7 (length text) then None else option_and_then pause_if_short (natural_of 10 text)
+abbrev pub pause_of_text : List ℕ → Option ℕ
+pause_of_text text = if nat_lt 7 (length text) then None else option_and_then pause_if_short (natural_of 10 text)
 
 abbrev pub micros_or_fault : Option ℕ → Result ℕ TellFault
 micros_or_fault (Some pause) = Ok (pause * 1000)
@@ -100,7 +100,7 @@ abbrev pub gap_of : Bool → Bool → Option Text → Result ℕ TellFault
 gap_of pages times None = Ok 1000000
 gap_of false times (Some text) = Err GapAlone
 gap_of true false (Some text) = Err GapAlone
-gap_of true true (Some text) = micros_or_fault (pause_of text)
+gap_of true true (Some text) = micros_or_fault (pause_of_text text)
 
 abbrev pub gap_asked : TellTexts → Result ℕ TellFault
 gap_asked given = gap_of (given.pages || given.explain) given.times (text_at given.gap)
@@ -127,15 +127,15 @@ pub record IsTelling (given : TellTexts) (options : TellOptions) : Type 0 where
   pub muxes : given.muxes ≡ Some options.muxes
 
 -- the fault of an option
-abbrev pub fault_in : {A : Type 0} → Result A TellFault → Option TellFault
-fault_in (Ok asked) = None
-fault_in (Err fault) = Some fault
+abbrev pub fault_of_option : {A : Type 0} → Result A TellFault → Option TellFault
+fault_of_option (Ok asked) = None
+fault_of_option (Err fault) = Some fault
 
 -- the first fault of the options, one after the other
 abbrev pub first_fault : TellTexts → Option TellFault
-first_fault given = option_or (fault_in (vout_asked given)) (option_or (fault_in (readings_asked given))
-    (option_or (fault_in (gap_asked given)) (option_or (fault_in (addresses_or_fault Part given.parts))
-    (fault_in (addresses_or_fault Mux given.muxes)))))
+first_fault given = option_or (fault_of_option (vout_asked given)) (option_or (fault_of_option (readings_asked given))
+    (option_or (fault_of_option (gap_asked given)) (option_or (fault_of_option (addresses_or_fault Part given.parts))
+    (fault_of_option (addresses_or_fault Mux given.muxes)))))
 
 -- the telling, or the first fault of the options
 abbrev pub IsAsked : TellTexts → Result TellOptions TellFault → Type 0

@@ -11,7 +11,7 @@ ghost use Rattle.clap.specs.Words.{FailsBy, HasKind, fault_of, found_of, kind_of
 ghost use Rattle.clap.specs.Words.{subcommand_of, takes};
 ghost use Rattle.pm_tool.specs.Commandline.{Asks, Given, HasValuesOf, IsCommandName};
 ghost use Rattle.pm_tool.specs.Lacking.{lacks_asked};
-ghost use Rattle.pm_tool.specs.Commandline.{Decodes, UnlessMemory, is_once, number_words, pmb};
+ghost use Rattle.pm_tool.specs.Commandline.{ChoosesDecode, UnlessMemory, is_once, number_words, pmb};
 
 mod addresses;
 mod choice;
@@ -107,7 +107,7 @@ fn choice_of<'a>(name: &str, found: &ArgMatches<'a>) -> Chosen<'a>
 
 // What `decode` does, with an option or without.
 fn decoding_of(given: TellTexts<'_>) -> Chosen<'_>
-    ensures { Decodes given.entry result }
+    ensures { ChoosesDecode given.entry result }
 {
     if given.is_any() {
         Chosen::Tell(given)

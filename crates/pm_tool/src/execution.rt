@@ -11,7 +11,7 @@ ghost use Rattle.pm_tool.specs.Refusals.{Says};
 ghost use Rattle.pm_tool.specs.Execution.{CheckEnds, CommandRuns, End, IsDone, IsEnd, NumberEnds, RunEnds, UsageEnds};
 ghost use Rattle.pm_tool.specs.Execution.{TellEnds};
 ghost use Rattle.pm_tool.specs.Execution.{CutShort, IsToldDone, Printed, hint_words, refusal_line, unwritten_words, wants_memory};
-ghost use Rattle.pm_tool.specs.Question.{asked_by};
+ghost use Rattle.pm_tool.specs.Question.{question_of_options};
 
 use crate::arguments::{texts_of, words_of};
 use crate::commandline::{Chosen, TellTexts, chosen};
@@ -325,7 +325,7 @@ fn run_number<W: Write, E: Write>(
     requires output { IsFalse output.old.failed }
     requires errors { IsFalse errors.old.failed }
     ensures { (end : End)
-        × NumberEnds (asked_by format.entry word.entry micro.entry) end
+        × NumberEnds (question_of_options format.entry word.entry micro.entry) end
         × IsEnd W.contents E.contents output.old output.new errors.old errors.new result end }
 {
     match number(alloc, output, format, word, micro) {

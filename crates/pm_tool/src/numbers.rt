@@ -7,7 +7,7 @@ ghost use Rattle.pm_tool.specs.declared.numbers.fault.NumberFault.{NumberFault};
 ghost use Rattle.pm_tool.specs.NumberText.{IsAnswer, IsCommandLineFault};
 ghost use Rattle.pm_tool.specs.NumberText.{IsNumberText, IsOfNumber, Refuses, RefusesNumber};
 ghost use Rattle.pm_tool.specs.NumberText.{rank_in, value_in};
-ghost use Rattle.pm_tool.specs.Question.{HasExponent, asked_by};
+ghost use Rattle.pm_tool.specs.Question.{HasExponent, question_of_options};
 ghost use Rattle.pm_lines.specs.Streams.{AppendsFront};
 
 mod answer;
@@ -44,22 +44,22 @@ pub fn number<W: Write>(
 ) -> Result<(), NumberFault>
     requires { IsFalse writer.old.failed }
     ensures ok { OnOk result ((text : List ℕ)
-        × IsNumberText (asked_by format.entry word.entry micro.entry) text
+        × IsNumberText (question_of_options format.entry word.entry micro.entry) text
         × Appends (W.contents writer.old.inner) (W.contents writer.new.inner) text) }
 
     // The faults of the command line, and those of the numbers, come exactly if they are found.
     ensures command_line { (fault : NumberFault) → IsCommandLineFault fault → IsErrOf result fault
-        ↔ (asked_by format.entry word.entry micro.entry ≡ Err fault) }
+        ↔ (question_of_options format.entry word.entry micro.entry ≡ Err fault) }
     ensures numbers { (fault : NumFault) → IsErrOf result (NumberFault.Num fault)
-        ↔ RefusesNumber (asked_by format.entry word.entry micro.entry) fault }
+        ↔ RefusesNumber (question_of_options format.entry word.entry micro.entry) fault }
 
     // X5 comes exactly if the writer failed, and X6 only if there was a line to write.
     ensures write { IsErrOf result (NumberFault.Text TextFault.Write) ↔ IsTrue writer.new.failed }
     ensures cut_short { IsErrOf result (NumberFault.Text TextFault.Write) → (text : List ℕ)
-        × IsNumberText (asked_by format.entry word.entry micro.entry) text
+        × IsNumberText (question_of_options format.entry word.entry micro.entry) text
         × AppendsFront (W.contents writer.old.inner) (W.contents writer.new.inner) text }
     ensures memory { IsErrOf result (NumberFault.Text TextFault.Memory) → (text : List ℕ)
-        × IsNumberText (asked_by format.entry word.entry micro.entry) text }
+        × IsNumberText (question_of_options format.entry word.entry micro.entry) text }
     ensures faults { IfErr result IsOfNumber }
     ensures unwritten { IfErr result (λ fault. fault ≢ NumberFault.Text TextFault.Write
         → writer.new ≡ writer.old) }
@@ -77,13 +77,13 @@ fn line_asked(
     micro: Option<&str>,
 ) -> Result<String, NumberFault>
     ensures line { IfOk result (λ line. IsNumberText
-        (asked_by format.entry word.entry micro.entry) (string_bytes line)) }
+        (question_of_options format.entry word.entry micro.entry) (string_bytes line)) }
     ensures command_line { (fault : NumberFault) → IsCommandLineFault fault → IsErrOf result fault
-        ↔ (asked_by format.entry word.entry micro.entry ≡ Err fault) }
+        ↔ (question_of_options format.entry word.entry micro.entry ≡ Err fault) }
     ensures numbers { (fault : NumFault) → IsErrOf result (NumberFault.Num fault)
-        ↔ RefusesNumber (asked_by format.entry word.entry micro.entry) fault }
+        ↔ RefusesNumber (question_of_options format.entry word.entry micro.entry) fault }
     ensures memory { IsErrOf result (NumberFault.Text TextFault.Memory) → (text : List ℕ)
-        × IsNumberText (asked_by format.entry word.entry micro.entry) text }
+        × IsNumberText (question_of_options format.entry word.entry micro.entry) text }
     ensures faults { IfErr result (λ fault.
         IsOfNumber fault × (fault ≢ NumberFault.Text TextFault.Write)) }
 {

@@ -3,7 +3,7 @@
 ghost use Rattle.std.specs.Prelude.{◌≡◌, IsFalse};
 ghost use Rattle.pm_lines.specs.Faults.{fault_words};
 ghost use Rattle.pm_lines.specs.declared.fault.TextFault.TheVariants.{Memory};
-ghost use Rattle.pm_tool.specs.Refusals.{Says, no_words, no_words_status, program_line};
+ghost use Rattle.pm_tool.specs.Refusals.{Says, bad_arguments_words, no_words_status, program_line};
 
 use pm_lines::{Sink, TextFault};
 use std::io::{self, Write};
@@ -30,7 +30,7 @@ pub fn refuse_memory<E: Write>(errors: &mut Sink<E>, program: &str) -> u8
 pub fn refuse_arguments<E: Write>(errors: &mut Sink<E>, program: &str, kind: io::ErrorKind) -> u8
     requires { IsFalse errors.old.failed }
     ensures status { result ≡ no_words_status kind }
-    ensures said { Says E.contents errors.old errors.new (program_line program.now (no_words kind)) }
+    ensures said { Says E.contents errors.old errors.new (program_line program.now (bad_arguments_words kind)) }
 {
     match kind {
         io::ErrorKind::OutOfMemory => refuse_memory(errors, program),

@@ -7,11 +7,11 @@ ghost use Rattle.pm_lines.specs.Faults.{IsOfText};
 ghost use Rattle.pm_lines.specs.Lines.{unskipped_from};
 ghost use Rattle.pm_lines.specs.Streams.{AppendsFront};
 ghost use Rattle.pm_device.specs.Effect.{Event};
-ghost use Rattle.pm_device.specs.History.{next, start_of};
+ghost use Rattle.pm_device.specs.History.{device_next, start_of};
 ghost use Rattle.pm_text.specs.Base.{base};
-ghost use Rattle.pm_tool.specs.LineEvent.{event_of};
-ghost use Rattle.pm_tool.specs.Outcome.{hearing, IsOfHear};
-ghost use Rattle.pm_tool.specs.Script.{as_line, events_in, event_lines, event_words, held_after, output_at, output_lines, printed_text};
+ghost use Rattle.pm_tool.specs.LineEvent.{event_of_line};
+ghost use Rattle.pm_tool.specs.Outcome.{hear_engine, IsOfHear};
+ghost use Rattle.pm_tool.specs.Script.{as_line, events_of_lines, event_lines, event_words, converter_after, output_at, output_word_lines, printed_text};
 
 mod answer_text;
 mod heard_text;
@@ -48,7 +48,7 @@ pub fn hear<R: Read, W: Write>(
     requires reader { IsFalse reader.old.failed }
     requires writer { IsFalse writer.old.failed }
     // What is written is the text of the input's events. X7 never comes.
-    ensures ends { EngineEnds hearing
+    ensures ends { EngineEnds hear_engine
         (over R.remaining reader.old reader.new W.contents writer.old writer.new) result }
     ensures faults { IfErr result IsOfHear }
 {
@@ -62,7 +62,7 @@ pub fn hear<R: Read, W: Write>(
 fn answers_to(alloc: Global, input: &[u8]) -> Result<(Vec<u8>, Converter), TextFault>
     requires { length input.now + 1 < 2 ^ 64 }
     ensures text { IfOk result (λ answers.
-        printed_text input.now ≡ Ok (answers.0.items ++ output_lines answers.1)) }
+        printed_text input.now ≡ Ok (answers.0.items ++ output_word_lines answers.1)) }
     ensures fault { IfErr result (λ e. (e ≡ TextFault.Memory) ⊎ (printed_text input.now ≡ Err e)) }
     ensures faults { IfErr result IsOfText }
     ensures memory { IsErrOf result TextFault.Memory → 0 < length input.now }
@@ -80,11 +80,11 @@ fn answer_lines(
 ) -> Result<Vec<u8>, TextFault>
     requires { length input.now + 1 < 2 ^ 64 }
     ensures lines { IfOk result (λ text. (events : List Event)
-        × (events_in (unskipped_from 1 input.now) ≡ Ok events)
+        × (events_of_lines (unskipped_from 1 input.now) ≡ Ok events)
         × (text.items ≡ event_lines converter.old events)
-        × (converter.new ≡ held_after converter.old events)) }
+        × (converter.new ≡ converter_after converter.old events)) }
     ensures fault { IfErr result (λ e. (e ≡ TextFault.Memory)
-        ⊎ (events_in (unskipped_from 1 input.now) ≡ Err e)) }
+        ⊎ (events_of_lines (unskipped_from 1 input.now) ≡ Err e)) }
     ensures faults { IfErr result IsOfText }
     ensures memory { IsErrOf result TextFault.Memory → 0 < length input.now }
 {
@@ -106,8 +106,8 @@ fn push_event(
     frame: &[u8],
 ) -> Result<(), AllocError>
     ensures text { OnOk result (text.new.items
-        ≡ text.old.items ++ as_line (event_words converter.old (event_of event frame.now))) }
-    ensures after { converter.new ≡ next converter.old (event_of event frame.now) }
+        ≡ text.old.items ++ as_line (event_words converter.old (event_of_line event frame.now))) }
+    ensures after { converter.new ≡ device_next converter.old (event_of_line event frame.now) }
 {
     match event {
         LineEvent::Frame(ending) => push_reply(text, &converter.hear(frame, ending)),
@@ -126,9 +126,9 @@ fn put_text<W: Write>(
 ) -> Result<(), TextFault>
     requires { IsFalse writer.old.failed }
     ensures all { OnOk result (Appends (W.contents writer.old.inner) (W.contents writer.new.inner)
-        (lines.now ++ output_lines converter.now)) }
+        (lines.now ++ output_word_lines converter.now)) }
     ensures front { OnErr result (AppendsFront (W.contents writer.old.inner)
-        (W.contents writer.new.inner) (lines.now ++ output_lines converter.now)) }
+        (W.contents writer.new.inner) (lines.now ++ output_word_lines converter.now)) }
     ensures failed { writer.new.failed ≡ is_err result }
     ensures fault { IfErr result (λ e. e ≡ TextFault.Write) }
 {

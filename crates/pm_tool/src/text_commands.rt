@@ -3,7 +3,7 @@ ghost use Rattle.std.specs.Prelude.{◌≡◌, IsFalse};
 ghost use Rattle.pm_text.specs.Replay.{replaying};
 ghost use Rattle.pm_trace.specs.Outcome.{decoding};
 ghost use Rattle.pm_tool.specs.Execution.{CheckRuns, CommandRuns, EngineRuns, Runs, TellRuns, decode_status, log_status, replay_status, untold as spec_untold};
-ghost use Rattle.pm_tool.specs.Outcome.{hearing};
+ghost use Rattle.pm_tool.specs.Outcome.{hear_engine};
 
 use crate::script::hear;
 use pm_decode::{Hint, TellOptions, decode, tell};
@@ -75,7 +75,7 @@ fn run_hear<R: Read, W: Write>(
 ) -> Result<Written, Unwritten>
     requires reader { IsFalse reader.old.failed }
     requires writer { IsFalse writer.old.failed }
-    ensures { Runs (EngineRuns hearing (λ _. 0) R.remaining reader.old reader.new) W.contents writer.old writer.new result }
+    ensures { Runs (EngineRuns hear_engine (λ _. 0) R.remaining reader.old reader.new) W.contents writer.old writer.new result }
 {
     match hear(alloc, reader, writer) {
         Ok(()) => Ok(Written {

@@ -16,9 +16,11 @@ use Rattle.pm_lines.specs.Pairs.{byte_of, paired_bytes, behind_pairs}
 use Rattle.pm_trace.specs.{declared.decoder.Decoder.TheInside.Inside, declared.decoder.intake.Intake.TheVariants.Open}
 use Rattle.pm_trace.specs.{declared.decoder.line_kind.LineKind.LineKind, declared.decoder.open_line.OpenLine.OpenLine}
 use Rattle.pm_trace.specs.{declared.decoder.slashes.Slashes.Slashes, declared.fed.Fed.Fed}
-use Rattle.pm_trace.specs.Counts.{Counts, IsNewCode, counts_of, counts_with, lines_in, is_accepted, is_faulty, is_bad}
-use Rattle.pm_trace.specs.Decoding.{Kept, kept_takes, next, told, some_told, line_ended, line_told, Holding, Feeds, first_line, taken_of}
-use Rattle.pm_trace.specs.Decoding.{CarriesNew, IsFresh, Finishes, now, said, told_at_end, kept_at_end, taken_by, told_by, kept_by}
+use Rattle.pm_trace.specs.Counts.{Counts, IsNewCode, counts_of, counts_with, lines_in, is_line_accepted, is_faulty, is_bad}
+use Rattle.pm_trace.specs.Decoding.{Kept, kept_takes, kept_with_bytes, told, some_told, line_ended, line_told, Holding, Feeds, first_line}
+use Rattle.pm_trace.specs.Decoding.{taken_from_piece}
+use Rattle.pm_trace.specs.Decoding.{CarriesNew, IsFresh, Finishes, kept_of_bytes, said, told_at_end, kept_at_end, taken_by_intake}
+use Rattle.pm_trace.specs.Decoding.{told_by_intake, kept_by_intake}
 use Rattle.pm_trace.specs.Holdings.{Takes as HoldingsTakes, holding_in, shown_in}
 use Rattle.pm_trace.specs.Lemmas.Runs.{taken-unmarked, told-append, told-unmarked}
 use Rattle.pm_trace.specs.Lemmas.Said.{now-append, said-append, trace_of-end, counts-at_end}
@@ -44,7 +46,7 @@ kept_at : Kept → ℕ → OpenLine → Kept
 kept_at kept taken line = record kept { taken = taken; line = line }
 
 -- bytes without a line feed go to the line
-pub next_plain : (kept : Kept) (bytes : List ℕ) → list_any is_line_feed bytes ≡ false → next kept bytes ≡ kept_with kept bytes
+pub next_plain : (kept : Kept) (bytes : List ℕ) → list_any is_line_feed bytes ≡ false → kept_with_bytes kept bytes ≡ kept_with kept bytes
 unfolding kept_takes kept_at
 next_plain = taken-unmarked is_line_feed kept_takes kept_with none more
   where
@@ -63,7 +65,7 @@ told_plain = told-unmarked is_line_feed kept_takes (λ kept. some_told (line_tol
 
 -- a line feed after bytes without one
 pub next_ended : (kept : Kept) (front : List ℕ) → list_any is_line_feed front ≡ false
-    → next kept (front ++ 10 ∷ []) ≡ record (line_ended (kept_with kept front)) { taken = kept.taken + length front + 1 }
+    → kept_with_bytes kept (front ++ 10 ∷ []) ≡ record (line_ended (kept_with kept front)) { taken = kept.taken + length front + 1 }
 unfolding kept_takes
 next_ended kept front plain =
     fold-append kept_takes kept front (10 ∷ []) ∙ ap (λ k. kept_takes k 10) (next_plain kept front plain)
@@ -81,7 +83,7 @@ told_ended kept front plain =
 -- a call shows no line from here on, and looks at these bytes of its piece
 pub record Begins (start : Holding) (piece : List ℕ) (begun : Holding) (bytes : List ℕ) : Type 0 where
   pub begun_is : begun ≡ record start { shown = None }
-  pub taken : taken_of start piece ≡ first_line bytes
+  pub taken : taken_from_piece start piece ≡ first_line bytes
 
 -- the bytes of a call, of which a line feed may be the last
 module _ (start : Holding) {begun mid : Holding} {piece bytes : List ℕ} {fed : Fed} (begins : Begins start piece begun bytes)
@@ -99,34 +101,34 @@ module _ (start : Holding) {begun mid : Holding} {piece bytes : List ℕ} {fed :
   shown_mid = ap (λ h. h.shown) takes.holding ∙ ap (λ h. h.shown) begins.begun_is
 
   -- what is taken of the piece
-  line_is : (ended : Bool) → fed.ended ≡ ended → taken_of start piece ≡ takes.front ++ cond ended (10 ∷ []) []
+  line_is : (ended : Bool) → fed.ended ≡ ended → taken_from_piece start piece ≡ takes.front ++ cond ended (10 ∷ []) []
   line_is ended is = begins.taken ∙ takes.line ∙ ap (λ e. takes.front ++ cond e (10 ∷ []) []) is
 
-  taken_is : fed.taken ≡ length (taken_of start piece)
+  taken_is : fed.taken ≡ length (taken_from_piece start piece)
   taken_is = takes.taken ∙ sym (ap length begins.taken)
 
   -- no line ends, and none is told
-  pub opens_told : fed.ended ≡ false → told start.kept (taken_of start piece) ≡ []
+  pub opens_told : fed.ended ≡ false → told start.kept (taken_from_piece start piece) ≡ []
   opens_told is =
       ap (told start.kept) (line_is false is ∙ append-nil takes.front) ∙ told_plain start.kept takes.front takes.plain
 
   -- the bytes end no line
   pub feeds_open : fed.ended ≡ false → Feeds start piece fed mid
   feeds_open is =
-      let line : taken_of start piece ≡ takes.front = line_is false is ∙ append-nil takes.front in
+      let line : taken_from_piece start piece ≡ takes.front = line_is false is ∙ append-nil takes.front in
       let count : fed.taken ≡ length takes.front = taken_is ∙ ap length line in
       record {
         taken = taken_is;
         ended = is ∙ sym (ap (list_any is_line_feed) line ∙ takes.plain);
         kept =
             kept_mid ∙ ap (λ n. record (kept_with start.kept takes.front) { taken = start.kept.taken + n }) count
-            ∙ sym (ap (next start.kept) line ∙ next_plain start.kept takes.front takes.plain);
+            ∙ sym (ap (kept_with_bytes start.kept) line ∙ next_plain start.kept takes.front takes.plain);
         shown = ap some_told shown_mid ∙ sym (opens_told is);
         intake = intake_mid;
       }
 
   -- what the line says that ends
-  pub ends_told : fed.ended ≡ true → told start.kept (taken_of start piece) ≡ some_told (line_told mid.kept)
+  pub ends_told : fed.ended ≡ true → told start.kept (taken_from_piece start piece) ≡ some_told (line_told mid.kept)
   ends_told is =
       ap (told start.kept) (line_is true is) ∙ told_ended start.kept takes.front takes.plain
       ∙ ap (λ k. some_told (line_told k)) (sym kept_mid)
@@ -144,14 +146,14 @@ module _ (start : Holding) {begun mid : Holding} {piece bytes : List ℕ} {fed :
         kept =
             ap (λ h. h.kept) ended ∙ ap line_ended kept_mid
             ∙ ap (λ n. record (line_ended (kept_with start.kept takes.front)) { taken = n }) count
-            ∙ sym (ap (next start.kept) line ∙ next_ended start.kept takes.front takes.plain);
+            ∙ sym (ap (kept_with_bytes start.kept) line ∙ next_ended start.kept takes.front takes.plain);
         shown = ap (λ h. some_told h.shown) ended ∙ sym (ends_told is);
         intake = ap (λ h. h.intake) ended ∙ intake_mid;
       }
 
   -- a refusal at the line's end stands for the bytes as a whole
   pub ends_new : fed.ended ≡ true → CarriesNew mid.kept.counts (some_told (line_told mid.kept))
-      → CarriesNew start.kept.counts (told start.kept (taken_of start piece))
+      → CarriesNew start.kept.counts (told start.kept (taken_from_piece start piece))
   ends_new is new =
       let counts : mid.kept.counts ≡ start.kept.counts = ap (λ k. k.counts) kept_mid in
       let P : Counts → Type 0 = λ counts. IsNewCode counts new.line.1 in
@@ -568,12 +570,12 @@ first_front (x ∷ xs) = by (is_line_feed x) (first_front xs)
     by false tail = (tail.0, ap (λ l. x ∷ l) tail.1)
 
 -- what a call takes is a prefix of its piece
-pub taken_front : (old : Holding) (piece : List ℕ) → old.intake ≡ Open → (rest : List ℕ) × (piece ≡ taken_of old piece ++ rest)
+pub taken_front : (old : Holding) (piece : List ℕ) → old.intake ≡ Open → (rest : List ℕ) × (piece ≡ taken_from_piece old piece ++ rest)
 taken_front old piece open' =
     let room = take (max_text - old.kept.taken) piece in
     let left = drop (max_text - old.kept.taken) piece in
     let front = first_front room in
-    let taken : taken_of old piece ≡ first_line room = ap (λ s. taken_by s old.kept piece) open' in (
+    let taken : taken_from_piece old piece ≡ first_line room = ap (λ s. taken_by_intake s old.kept piece) open' in (
       front.0 ++ left,
       sym (take-append-drop (max_text - old.kept.taken) piece) ∙ ap (λ l. l ++ left) front.1
           ∙ append_assoc (first_line room) front.0 left ∙ ap (λ l. l ++ (front.0 ++ left)) (sym taken),
@@ -585,7 +587,7 @@ front_taken front all rest n whole count = ap (λ k. take k all) count ∙ ap (t
 
 -- what a decoder holds that took these bytes and takes more
 pub record Took (bytes : List ℕ) (holding : Holding) : Type 0 where
-  pub kept : holding.kept ≡ now bytes
+  pub kept : holding.kept ≡ kept_of_bytes bytes
   pub intake : holding.intake ≡ Open
 
 -- one call
@@ -597,18 +599,19 @@ pub record Takes (bytes : List ℕ) (call : Call) (new : Holding) : Type 0 where
 takes : (bytes : List ℕ) (old new : Holding) (call : Call) → Took bytes old → Feeds old call.piece call.fed new → Takes bytes call new
 takes bytes old new call took feeds =
     let (rest, whole) = taken_front old call.piece took.intake in
-    let same : taken_in call ≡ taken_of old call.piece = front_taken
-    (taken_of old call.piece) call.piece rest call.fed.taken whole feeds.taken in
+    let same : taken_in call ≡ taken_from_piece old call.piece = front_taken
+    (taken_from_piece old call.piece) call.piece rest call.fed.taken whole feeds.taken in
     record {
       took = record {
         kept =
-            feeds.kept ∙ ap (λ k. next k (taken_of old call.piece)) took.kept ∙ sym (now-append bytes (taken_of old call.piece))
-            ∙ ap (λ l. now (bytes ++ l)) (sym same);
+            feeds.kept ∙ ap (λ k. kept_with_bytes k (taken_from_piece old call.piece)) took.kept
+            ∙ sym (now-append bytes (taken_from_piece old call.piece))
+            ∙ ap (λ l. kept_of_bytes (bytes ++ l)) (sym same);
         intake = feeds.intake ∙ took.intake;
       };
       lines =
-          said-append bytes (taken_in call) ∙ ap (λ l. said bytes ++ told (now bytes) l) same
-          ∙ ap (λ k. said bytes ++ told k (taken_of old call.piece)) (sym took.kept) ∙ ap (λ l. said bytes ++ l) (sym feeds.shown);
+          said-append bytes (taken_in call) ∙ ap (λ l. said bytes ++ told (kept_of_bytes bytes) l) same
+          ∙ ap (λ k. said bytes ++ told k (taken_from_piece old call.piece)) (sym took.kept) ∙ ap (λ l. said bytes ++ l) (sym feeds.shown);
     }
 
 -- calls one after another
@@ -657,31 +660,33 @@ pub record Ends (bytes : List ℕ) (new : Holding) : Type 0 where
   pub counts : new.kept.counts ≡ counts_of (trace_of bytes)
 
 -- the end counts what it tells
-counts_kept : (bytes : List ℕ) → (kept_at_end (now bytes)).counts ≡ counts_with (now bytes).counts (told_at_end (now bytes))
-counts_kept bytes = by (is_begun (now bytes).line)
+counts_kept : (bytes : List ℕ) → (kept_at_end (kept_of_bytes bytes)).counts
+    ≡ counts_with (kept_of_bytes bytes).counts (told_at_end (kept_of_bytes bytes))
+counts_kept bytes = by (is_begun (kept_of_bytes bytes).line)
   where
-    by : (c : Bool) → (cond c (line_ended (now bytes)) (now bytes)).counts ≡ counts_with (now bytes).counts (cond c (line_told
-        (now bytes)) None)
+    by : (c : Bool) → (cond c (line_ended (kept_of_bytes bytes)) (kept_of_bytes bytes)).counts
+        ≡ counts_with (kept_of_bytes bytes).counts (cond c (line_told
+        (kept_of_bytes bytes)) None)
     by true = refl
     by false = refl
 
 -- what is counted of the bytes so far
-counts_now : (bytes : List ℕ) → (now bytes).counts ≡ counts_of (said bytes)
-unfolding now
+counts_now : (bytes : List ℕ) → (kept_of_bytes bytes).counts ≡ counts_of (said bytes)
+unfolding kept_of_bytes
 counts_now bytes = refl
 
 -- the counts at the end are those of the whole trace
-pub counts-end : (bytes : List ℕ) → (kept_at_end (now bytes)).counts ≡ counts_of (trace_of bytes)
+pub counts-end : (bytes : List ℕ) → (kept_at_end (kept_of_bytes bytes)).counts ≡ counts_of (trace_of bytes)
 counts-end bytes =
-    counts_kept bytes ∙ ap (λ c. counts_with c (told_at_end (now bytes))) (counts_now bytes) ∙ sym (counts-at_end bytes)
+    counts_kept bytes ∙ ap (λ c. counts_with c (told_at_end (kept_of_bytes bytes))) (counts_now bytes) ∙ sym (counts-at_end bytes)
 
 -- what the end leaves
 ends : (bytes : List ℕ) (old new : Holding) (ended : Bool) → Took bytes old → Finishes old ended new → Ends bytes new
 ends bytes old new ended took finishes =
-    let shown : new.shown ≡ told_at_end (now bytes) =
-    finishes.shown ∙ ap (λ s. told_by s old.kept) took.intake ∙ ap told_at_end took.kept in
-    let kept : new.kept ≡ kept_at_end (now bytes) =
-    finishes.kept ∙ ap (λ s. kept_by s old.kept) took.intake ∙ ap kept_at_end took.kept in
+    let shown : new.shown ≡ told_at_end (kept_of_bytes bytes) =
+    finishes.shown ∙ ap (λ s. told_by_intake s old.kept) took.intake ∙ ap told_at_end took.kept in
+    let kept : new.kept ≡ kept_at_end (kept_of_bytes bytes) =
+    finishes.kept ∙ ap (λ s. kept_by_intake s old.kept) took.intake ∙ ap kept_at_end took.kept in
     record {
       lines = trace_of-end bytes ∙ ap (λ o. said bytes ++ some_told o) (sym shown);
       counts =
@@ -784,14 +789,14 @@ called_lines old new calls lines is run =
 
 -- what is kept is a look back over what was taken
 pub called_kept : (old new : Holding) (calls : List Call) (lines : List ToldLine) → IsFresh old → Calls old calls lines new
-    → new.kept ≡ now (flat_map taken_in calls)
+    → new.kept ≡ kept_of_bytes (flat_map taken_in calls)
 called_kept old new calls lines is run = (takes_all [] old new calls lines (fresh old is) run).took.kept
 
 -- the lines that ended are the first ones of the whole
 pub said_front : (bytes more : List ℕ) → (rest : List ToldLine) × (trace_of (bytes ++ more) ≡ said bytes ++ rest)
 said_front bytes more =
-    let later = told (now bytes) more in
-    let last = some_told (told_at_end (now (bytes ++ more))) in
+    let later = told (kept_of_bytes bytes) more in
+    let last = some_told (told_at_end (kept_of_bytes (bytes ++ more))) in
     (later ++ last, trace_of-end (bytes ++ more) ∙ ap (λ l. l ++ last) (said-append bytes more) ∙ append_assoc (said bytes) later last)
 
 -- the lines shown up to a refused call are the first that the pieces have
@@ -811,7 +816,7 @@ count-cons : (p : ToldLine → Bool) (line : ToldLine) (lines : List ToldLine) �
 count-cons p line lines = sum_by-cons (λ x. cond (p x) 1 0) line lines
 
 -- a line is of one kind
-one_kind : (line : ToldLine) → cond (is_accepted line) 1 0 + cond (is_faulty line) 1 0 + cond (is_bad line) 1 0 ≡ 1
+one_kind : (line : ToldLine) → cond (is_line_accepted line) 1 0 + cond (is_faulty line) 1 0 + cond (is_bad line) 1 0 ≡ 1
 one_kind (number, Accepted addr message answer) = refl
 one_kind (number, Faulty addr read fault) = refl
 one_kind (number, BadSyntax) = refl
@@ -823,7 +828,7 @@ unfolding counts_of
 total [] = refl
 total (line ∷ lines) =
     let rest = total lines in
-    let accepted = count-cons is_accepted line lines in
+    let accepted = count-cons is_line_accepted line lines in
     let faults = count-cons is_faulty line lines in
     let bad = count-cons is_bad line lines in
     let one = one_kind line in

@@ -65,14 +65,14 @@ answered_by write answers = if has_answered answers write then answers else reco
 -- ---- what it is taken for
 
 -- this many ones are what was written last, but for a last byte that may be its PEC
-abbrev pub is_answer : Option WrittenOnes → ℕ → Bool
-is_answer None count = false
-is_answer (Some written) count = nat_le count written.ones
+abbrev pub is_written_back : Option WrittenOnes → ℕ → Bool
+is_written_back None count = false
+is_written_back (Some written) count = nat_le count written.ones
     && (nat_le count written.bytes && nat_le (written.bytes - count) 1)
 
 -- they are nobody's if the address sends right PECs, and this answer doesn't lack just its PEC, as another host would take it
 abbrev pub ones_at : Answers → ℕ → ℕ → ℕ → Bool → Ones
-ones_at answers addr code count lacks = if is_answer (lookup (nat_eq (key_of addr code)) answers.written) count then ones.Answer
+ones_at answers addr code count lacks = if is_written_back (lookup (nat_eq (key_of addr code)) answers.written) count then ones.Answer
     else (if is_some (lookup (nat_eq addr) answers.checked) && not lacks then ones.Nobody else ones.Doubtful)
 
 -- the answer of a packet

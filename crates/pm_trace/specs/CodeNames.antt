@@ -4,11 +4,11 @@ use Rattle.std.specs.Prelude.{ℕ, ◌==◌, nat_lt, if◌then◌else◌, List, 
 use Rattle.pm_table.specs.Commands.{is_known, name_of}
 
 -- a code and its name
-abbrev pub Row : Type 0
-Row = ℕ × List ℕ
+abbrev pub NamedCode : Type 0
+NamedCode = ℕ × List ℕ
 
 -- 00h to 1Fh
-unfoldable pub rows_from_00 : List Row
+unfoldable pub rows_from_00 : List NamedCode
 rows_from_00 =
     (0x02, codes "ON_OFF_CONFIG") ∷ (0x04, codes "PHASE") ∷ (0x07, codes "ZONE_CONFIG") ∷
     (0x08, codes "ZONE_ACTIVE") ∷ (0x11, codes "STORE_DEFAULT_ALL") ∷ (0x12, codes "RESTORE_DEFAULT_ALL") ∷
@@ -17,7 +17,7 @@ rows_from_00 =
     (0x1B, codes "SMBALERT_MASK") ∷ []
 
 -- 20h to 3Fh
-unfoldable pub rows_from_20 : List Row
+unfoldable pub rows_from_20 : List NamedCode
 rows_from_20 =
     (0x22, codes "VOUT_TRIM") ∷ (0x23, codes "VOUT_CAL_OFFSET") ∷ (0x27, codes "VOUT_TRANSITION_RATE") ∷
     (0x28, codes "VOUT_DROOP") ∷ (0x29, codes "VOUT_SCALE_LOOP") ∷ (0x2A, codes "VOUT_SCALE_MONITOR") ∷
@@ -28,7 +28,7 @@ rows_from_20 =
     (0x3E, codes "FAN_COMMAND_3") ∷ (0x3F, codes "FAN_COMMAND_4") ∷ []
 
 -- 40h to 5Fh
-unfoldable pub rows_from_40 : List Row
+unfoldable pub rows_from_40 : List NamedCode
 rows_from_40 =
     (0x40, codes "VOUT_OV_FAULT_LIMIT") ∷ (0x41, codes "VOUT_OV_FAULT_RESPONSE") ∷
     (0x42, codes "VOUT_OV_WARN_LIMIT") ∷ (0x43, codes "VOUT_UV_WARN_LIMIT") ∷
@@ -46,7 +46,7 @@ rows_from_40 =
     (0x5F, codes "POWER_GOOD_OFF") ∷ []
 
 -- 60h to 7Fh
-unfoldable pub rows_from_60 : List Row
+unfoldable pub rows_from_60 : List NamedCode
 rows_from_60 =
     (0x60, codes "TON_DELAY") ∷ (0x61, codes "TON_RISE") ∷ (0x62, codes "TON_MAX_FAULT_LIMIT") ∷
     (0x63, codes "TON_MAX_FAULT_RESPONSE") ∷ (0x64, codes "TOFF_DELAY") ∷ (0x65, codes "TOFF_FALL") ∷
@@ -56,7 +56,7 @@ rows_from_60 =
     (0x7D, codes "STATUS_TEMPERATURE") ∷ (0x7F, codes "STATUS_OTHER") ∷ []
 
 -- 80h to 9Fh
-unfoldable pub rows_from_80 : List Row
+unfoldable pub rows_from_80 : List NamedCode
 rows_from_80 =
     (0x80, codes "STATUS_MFR_SPECIFIC") ∷ (0x81, codes "STATUS_FANS_1_2") ∷ (0x82, codes "STATUS_FANS_3_4") ∷
     (0x83, codes "READ_KWH_IN") ∷ (0x84, codes "READ_KWH_OUT") ∷ (0x85, codes "READ_KWH_CONFIG") ∷
@@ -69,7 +69,7 @@ rows_from_80 =
     (0x9E, codes "MFR_SERIAL") ∷ (0x9F, codes "APP_PROFILE_SUPPORT") ∷ []
 
 -- A0h to FFh
-unfoldable pub rows_from_A0 : List Row
+unfoldable pub rows_from_A0 : List NamedCode
 rows_from_A0 =
     (0xA0, codes "MFR_VIN_MIN") ∷ (0xA1, codes "MFR_VIN_MAX") ∷ (0xA2, codes "MFR_IIN_MAX") ∷
     (0xA3, codes "MFR_PIN_MAX") ∷ (0xA4, codes "MFR_VOUT_MIN") ∷ (0xA5, codes "MFR_VOUT_MAX") ∷
@@ -86,14 +86,14 @@ rows_from_A0 =
     (0xFF, codes "PMBUS_COMMAND_EXT") ∷ []
 
 -- the rows among which a code stands
-abbrev pub rows_near : ℕ → List Row
+abbrev pub rows_near : ℕ → List NamedCode
 rows_near code = if nat_lt code 0x20 then rows_from_00
     else (if nat_lt code 0x40 then rows_from_20
     else (if nat_lt code 0x60 then rows_from_40
     else (if nat_lt code 0x80 then rows_from_60
     else (if nat_lt code 0xA0 then rows_from_80 else rows_from_A0))))
 
-abbrev pub name_among : List Row → ℕ → List ℕ
+abbrev pub name_among : List NamedCode → ℕ → List ℕ
 name_among [] code = []
 name_among (row ∷ rows) code = if row.0 == code then row.1 else name_among rows code
 

@@ -17,11 +17,11 @@ pub record Counts : Type 0 where
 abbrev pub lines_in : Counts → ℕ
 lines_in counts = counts.accepted + counts.faults + counts.bad
 
-abbrev pub is_accepted : ToldLine → Bool
-is_accepted (number, Accepted addr message answer) = true
-is_accepted (number, Faulty addr read fault) = false
-is_accepted (number, BadSyntax) = false
-is_accepted (number, BadHex) = false
+abbrev pub is_line_accepted : ToldLine → Bool
+is_line_accepted (number, Accepted addr message answer) = true
+is_line_accepted (number, Faulty addr read fault) = false
+is_line_accepted (number, BadSyntax) = false
+is_line_accepted (number, BadHex) = false
 
 abbrev pub is_faulty : ToldLine → Bool
 is_faulty (number, Accepted addr message answer) = false
@@ -59,7 +59,7 @@ counted codes = fold one_more [] codes
 
 unfoldable pub counts_of : List ToldLine → Counts
 counts_of lines = record {
-  accepted = count_by is_accepted lines;
+  accepted = count_by is_line_accepted lines;
   faults = count_by is_faulty lines;
   bad = count_by is_bad lines;
   codes = counted (filter_map code_told lines);

@@ -9,23 +9,23 @@ use Rattle.pm_trace.specs.declared.decoder.intake.Intake.TheVariants.{Open, Fini
 use Rattle.pm_trace.specs.declared.fed.Fed.{Fed}
 use Rattle.pm_trace.specs.Counts.{lines_in}
 use Rattle.pm_trace.specs.Decoding.{Holding, Kept, first_line}
-use Rattle.pm_trace.specs.OpenLines.{line_of, line_takes, is_skipped_kind, open_judged}
+use Rattle.pm_trace.specs.OpenLines.{open_line_of, line_takes, is_skipped_kind, open_judged}
 use Rattle.pm_trace.specs.Trace.{ToldLine}
 
 -- the line that is shown is no part of what goes on, though its bytes are kept
-abbrev pub kept_in : Inside → Kept
-kept_in d = record {
+abbrev pub kept_in_decoder : Inside → Kept
+kept_in_decoder d = record {
   taken = d.taken;
   ended = d.ended;
   counts = d.tally;
-  line = if d.is_shown then line_of [] else d.line;
+  line = if d.is_shown then open_line_of [] else d.line;
 }
 
 abbrev pub shown_in : Inside → Option ToldLine
 shown_in d = if d.is_shown then Some (d.ended, open_judged d.line) else None
 
 abbrev pub holding_in : Inside → Holding
-holding_in d = record { kept = kept_in d; shown = shown_in d; intake = d.intake }
+holding_in d = record { kept = kept_in_decoder d; shown = shown_in d; intake = d.intake }
 
 -- no more lines are counted than ended, and no more end than bytes were taken, and this many more
 pub record IsBounded (more : ℕ) (kept : Kept) : Type 0 where
@@ -42,7 +42,7 @@ lines_at_end (Failed fault) = 1
 -- a line that is shown isn't skipped
 pub record IsSound (d : Inside) : Type 0 where
   pub unskipped : d.is_shown ≡ true → is_skipped_kind d.line.kind ≡ false
-  pub bounded : IsBounded (lines_at_end d.intake) (kept_in d)
+  pub bounded : IsBounded (lines_at_end d.intake) (kept_in_decoder d)
 
 -- bytes were taken up to the first line feed, and with it, or all of them; a line that ends with it
 -- isn't ended yet

@@ -3,7 +3,7 @@ use Rattle.std.specs.Prelude.{◌≡◌, ◌<◌, ℕ, List, ◌++◌, length, f
 use Rattle.std.specs.List.{concat}
 use Rattle.pm_num.specs.Ratio.{IsMicroFloor, Ratio}
 use Rattle.pm_trace.specs.Counts.{counts_of, lines_in}
-use Rattle.pm_trace.specs.Decoding.{Holding, IsFresh, now, next, said}
+use Rattle.pm_trace.specs.Decoding.{Holding, IsFresh, kept_of_bytes, kept_with_bytes, said}
 use Rattle.pm_trace.specs.Pieces.{Call, Calls, Decodes, Stops, taken_in}
 use Rattle.pm_trace.specs.Trace.{ToldLine, trace_of}
 use Rattle.pm_trace.specs.Values.{millionths}
@@ -12,7 +12,7 @@ use Rattle.pm_trace.specs.Values.{millionths}
 -- pieces joined, where nothing is refused, and otherwise the first of them; and it counts what these
 -- lines say. What it keeps is a look back over its bytes.
 pub record PiecesDoNotMatter : Type 0 where
-  pub next : (bytes piece : List ℕ) → now (bytes ++ piece) ≡ next (now bytes) piece
+  pub next : (bytes piece : List ℕ) → kept_of_bytes (bytes ++ piece) ≡ kept_with_bytes (kept_of_bytes bytes) piece
   -- each piece is fed on until it is taken whole; then comes `finish`
   pub lines : (old new : Holding) (pieces : List (List ℕ)) (lines : List ToldLine) → IsFresh old →
       Decodes old pieces lines new → lines ≡ trace_of (concat pieces)
@@ -26,7 +26,7 @@ pub record PiecesDoNotMatter : Type 0 where
   pub so_far : (old new : Holding) (calls : List Call) (lines : List ToldLine) → IsFresh old →
       Calls old calls lines new → lines ≡ said (flat_map taken_in calls)
   pub kept : (old new : Holding) (calls : List Call) (lines : List ToldLine) → IsFresh old →
-      Calls old calls lines new → new.kept ≡ now (flat_map taken_in calls)
+      Calls old calls lines new → new.kept ≡ kept_of_bytes (flat_map taken_in calls)
   pub front : (bytes more : List ℕ) → (rest : List ToldLine)
       × (trace_of (bytes ++ more) ≡ said bytes ++ rest)
 

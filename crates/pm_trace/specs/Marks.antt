@@ -9,10 +9,10 @@ onto_next byte [] = []
 onto_next byte (piece ∷ pieces) = (byte ∷ piece) ∷ pieces
 
 -- the pieces that end at a mark, without the marks
-abbrev pub ended : (ℕ → Bool) → List ℕ → List (List ℕ)
-ended mark [] = []
-ended mark (byte ∷ bytes) =
-    cond (mark byte) ([] ∷ ended mark bytes) (onto_next byte (ended mark bytes))
+abbrev pub ended_pieces : (ℕ → Bool) → List ℕ → List (List ℕ)
+ended_pieces mark [] = []
+ended_pieces mark (byte ∷ bytes) =
+    cond (mark byte) ([] ∷ ended_pieces mark bytes) (onto_next byte (ended_pieces mark bytes))
 
 -- what stands since the last mark: all, where there is none
 abbrev pub since : (ℕ → Bool) → List ℕ → List ℕ
@@ -25,9 +25,9 @@ before mark [] = []
 before mark (byte ∷ bytes) = cond (mark byte) [] (byte ∷ before mark bytes)
 
 -- what stands after the first mark: nothing, where there is none
-abbrev pub after : (ℕ → Bool) → List ℕ → List ℕ
-after mark [] = []
-after mark (byte ∷ bytes) = cond (mark byte) bytes (after mark bytes)
+abbrev pub after_first_mark : (ℕ → Bool) → List ℕ → List ℕ
+after_first_mark mark [] = []
+after_first_mark mark (byte ∷ bytes) = cond (mark byte) bytes (after_first_mark mark bytes)
 
 -- what is told of bytes that are taken one after another: at each mark what was kept before it tells
 abbrev pub told_at_marks : {K A : Type 0} → (ℕ → Bool) → (K → ℕ → K) → (K → List A) → K → List ℕ → List A

@@ -46,13 +46,13 @@ change_of is_clear page Nothing = OfNone
 -- ---- what a line says
 
 -- a mode that a line says, or that isn't known any more after it
-abbrev pub said_in : ℕ → Option ℕ → ModeLine
-said_in line byte = record { byte = byte; line = line }
+abbrev pub mode_said_in : ℕ → Option ℕ → ModeLine
+mode_said_in line byte = record { byte = byte; line = line }
 
 -- the mode of an output
 abbrev pub output_said : ℕ → ℕ → ℕ → Option ℕ → Modes → Modes
 output_said line addr page byte modes =
-    record modes { said = insert_entry nat_eq modes.said (key_of addr page) (said_in line byte) }
+    record modes { said = insert_entry nat_eq modes.said (key_of addr page) (mode_said_in line byte) }
 
 -- the plain mode of an address, after what is known of that
 abbrev pub plain_over : Option (Option ModeLine) → ModeLine → Option ModeLine
@@ -62,7 +62,7 @@ plain_over None said = Some said
 
 abbrev pub plain_said : ℕ → ℕ → ℕ → Modes → Modes
 plain_said line addr byte modes = record modes {
-  plain = insert_entry nat_eq modes.plain addr (plain_over (lookup (nat_eq addr) modes.plain) (said_in line (Some byte)));
+  plain = insert_entry nat_eq modes.plain addr (plain_over (lookup (nat_eq addr) modes.plain) (mode_said_in line (Some byte)));
 }
 
 -- the modes of an address that may have changed aren't known any more

@@ -1,12 +1,12 @@
 -- What is kept of a line of a trace while its bytes come one after another, as a look back over its
--- bytes so far (`kind_of`, `slashes_of`, `plain_line`, `line_of`), and what one more byte makes of it
+-- bytes so far (`kind_of`, `slashes_of`, `plain_line`, `open_line_of`), and what one more byte makes of it
 -- (`kind_takes`, `one_slash_more`, `plain_takes`, `line_takes`). This project's own choice.
 use Rattle.std.specs.Prelude.{◌≡◌, ℕ, Bool, true, false, not, ◌&&◌, ◌||◌, ◌==◌, nat_eq, if◌then◌else◌, List, [], ◌∷◌, ◌++◌, is_some, Option, Some, None, Result, Ok, Err, ⊤}
 use Rattle.std.specs.List.{fold, list_any, list_all, ends_with}
 use Rattle.hex.specs.Hex.{is_hex_digit}
 use Rattle.pm_lines.specs.Pairs.{byte_of}
 use Rattle.pm_lines.specs.Lines.{is_line_feed, is_space, without_return, carriage_return}
-use Rattle.pm_trace.specs.Marks.{ended, since, before, after}
+use Rattle.pm_trace.specs.Marks.{ended_pieces, since, before, after_first_mark}
 use Rattle.pm_trace.specs.Trace.{is_slash, is_separator, unpaired, is_bad_word, part_bytes, reading_judged, Judged}
 use Rattle.pm_trace.specs.declared.line_fault.LineFault.{LineFault}
 use Rattle.pm_trace.specs.declared.line_fault.LineFault.TheVariants as fault
@@ -48,7 +48,7 @@ is_empty_kind Packet = false
 
 abbrev pub slashes_of : List ℕ → Slashes
 slashes_of line = if list_any is_slash line
-    then (if list_any is_slash (after is_slash line) then slash.More else slash.One)
+    then (if list_any is_slash (after_first_mark is_slash line) then slash.More else slash.One)
     else slash.None
 
 abbrev pub one_slash_more : Slashes → Slashes
@@ -73,17 +73,17 @@ unfoldable pub plain_line : List ℕ → OpenLine
 plain_line line = record {
   kind = kind_of line;
   write = part_of (part_bytes (before is_slash line));
-  read = part_of (part_bytes (after is_slash line));
+  read = part_of (part_bytes (after_first_mark is_slash line));
   digit = unpaired (since is_separator line);
   slashes = slashes_of line;
-  is_bad = list_any is_bad_word (ended is_separator line)
+  is_bad = list_any is_bad_word (ended_pieces is_separator line)
       || not (list_all is_hex_digit (since is_separator line));
   is_returned = false;
 }
 
 -- the part that goes on, with one byte more
-abbrev pub with_byte : OpenLine → ℕ → OpenLine
-with_byte line byte = record line {
+abbrev pub part_with_byte : OpenLine → ℕ → OpenLine
+part_with_byte line byte = record line {
   write = if has_slash line.slashes then line.write else part_takes line.write byte;
   read = if has_slash line.slashes then part_takes line.read byte else line.read;
 }
@@ -91,7 +91,7 @@ with_byte line byte = record line {
 -- a digit, which makes a byte with the one before it, where there is one
 abbrev pub with_digit : OpenLine → Option ℕ → ℕ → OpenLine
 with_digit line None byte = record line { digit = Some byte }
-with_digit line (Some high) byte = with_byte (record line { digit = None }) (byte_of high byte)
+with_digit line (Some high) byte = part_with_byte (record line { digit = None }) (byte_of high byte)
 
 -- a space or a slash: the word ends
 abbrev pub word_ends : OpenLine → ℕ → OpenLine
@@ -132,8 +132,8 @@ open_told line = if is_skipped_kind line.kind then None else Some (open_judged l
 -- ---- a line whose end may come
 
 -- the carriage return at its end is held back, since it is no part of a line that ends here
-unfoldable pub line_of : List ℕ → OpenLine
-line_of line = record (plain_line (without_return line)) {
+unfoldable pub open_line_of : List ℕ → OpenLine
+open_line_of line = record (plain_line (without_return line)) {
   is_returned = ends_with nat_eq line carriage_return;
 }
 

@@ -16,6 +16,7 @@ use Rattle.pm_trace.specs.declared.answers.Ones.TheVariants.{Answer, Doubtful, N
 use Rattle.pm_trace.specs.declared.otherwise.Otherwise.{Otherwise}
 use Rattle.pm_trace.specs.ValueText.{known_text}
 use Rattle.pm_trace.specs.Values.{other_value}
+use Rattle.pm_frame.specs.Layout.{with_pec}
 
 -- ---- which packets
 
@@ -42,8 +43,8 @@ is_read_from first (Some []) = false
 is_read_from first (Some (byte ∷ bytes)) = byte == first + 1
 
 -- it has an address and a code
-abbrev pub has_code : List ℕ → Option (List ℕ) → Bool
-has_code write read = nat_le 2 (length write) && is_read_from (slice_index write 0) read
+abbrev pub has_address_and_code : List ℕ → Option (List ℕ) → Bool
+has_address_and_code write read = nat_le 2 (length write) && is_read_from (slice_index write 0) read
 
 -- ---- the PEC
 
@@ -83,11 +84,11 @@ is_all_ones write None = false
 is_all_ones write (Some read) = are_ones (drop 1 read) && not (has_pec write (Some read))
 
 -- a packet that was answered, or taken
-abbrev pub is_answer : Ones → Bool
-is_answer Answer = true
-is_answer Doubtful = false
-is_answer Nobody = false
-is_answer (Refused refusal) = false
+abbrev pub ones_are_answer : Ones → Bool
+ones_are_answer Answer = true
+ones_are_answer Doubtful = false
+ones_are_answer Nobody = false
+ones_are_answer (Refused refusal) = false
 
 abbrev pub is_nobody : Ones → Bool
 is_nobody Answer = false
@@ -124,7 +125,8 @@ is_miscounted write (Some read) = false
 -- the address of a packet that is shown by its code and bytes
 abbrev pub address_otherwise : Ones → List ℕ → Option (List ℕ) → Judged → Option ℕ
 address_otherwise ones write read (Faulty (Some addr) is_read fault) =
-    if has_code write read && ((is_of_code (slice_index write 1) read fault || are_strange ones) && not (is_miscounted write read))
+    if has_address_and_code write read
+    && ((is_of_code (slice_index write 1) read fault || are_strange ones) && not (is_miscounted write read))
     then Some addr else None
 address_otherwise ones write read (Faulty None is_read fault) = None
 address_otherwise ones write read (Accepted addr message answer) = None
@@ -146,10 +148,6 @@ is_accepted (Accepted addr message answer) = true
 is_accepted (Faulty addr is_read fault) = false
 is_accepted BadSyntax = false
 is_accepted BadHex = false
-
--- a part with the PEC of what was before it and of its bytes
-abbrev pub with_pec : List ℕ → List ℕ → List ℕ
-with_pec before part = part ++ pec_of (before ++ part) ∷ []
 
 -- a packet with this last part
 abbrev pub judged_with : List ℕ → Bool → List ℕ → Judged
@@ -191,9 +189,9 @@ written_bytes write None = shown_of 2 (has_pec write None) write
 written_bytes write (Some read) = drop 2 write
 
 -- what was answered after the address, if anything was read
-abbrev pub answer_bytes : List ℕ → Option (List ℕ) → Option (List ℕ)
-answer_bytes write None = None
-answer_bytes write (Some read) = Some (shown_of 1 (has_pec write (Some read)) read)
+abbrev pub bytes_after_address : List ℕ → Option (List ℕ) → Option (List ℕ)
+bytes_after_address write None = None
+bytes_after_address write (Some read) = Some (shown_of 1 (has_pec write (Some read)) read)
 
 -- bytes in hexadecimal, each with a space before it
 abbrev pub spaced_byte : ℕ → List ℕ
@@ -207,8 +205,8 @@ abbrev pub named_by : List ℕ → List ℕ
 named_by [] = []
 named_by (letter ∷ letters) = codes " " ++ (letter ∷ letters)
 
-abbrev pub named : ℕ → List ℕ
-named code = named_by (standard_name code)
+abbrev pub named_code_text : ℕ → List ℕ
+named_code_text code = named_by (standard_name code)
 
 -- ---- what they carry
 
@@ -242,7 +240,7 @@ content_by code written None = write_content code written
 content_by code written (Some answer) = read_content code written answer
 
 unfoldable pub content_of : List ℕ → Option (List ℕ) → ContentBytes
-content_of write read = content_by (slice_index write 1) (written_bytes write read) (answer_bytes write read)
+content_of write read = content_by (slice_index write 1) (written_bytes write read) (bytes_after_address write read)
 
 -- ---- what it says
 
@@ -283,18 +281,18 @@ content_letters content = if is_text_code content.code then letters_in (said_byt
 abbrev pub letters_text : List ℕ → List ℕ
 letters_text letters = codes " \"" ++ (letters ++ codes "\"")
 
-abbrev pub meaning_by : Option (List ℕ) → ContentBytes → List ℕ
-meaning_by None content = known_text (other_value content.code (said_bytes content))
-meaning_by (Some letters) content = letters_text letters
+abbrev pub meaning_or_letters : Option (List ℕ) → ContentBytes → List ℕ
+meaning_or_letters None content = known_text (other_value content.code (said_bytes content))
+meaning_or_letters (Some letters) content = letters_text letters
 
 -- what the bytes say, if that is asked for
 abbrev pub content_meaning : Bool → ContentBytes → List ℕ
-content_meaning values content = if values then meaning_by (content_letters content) content else []
+content_meaning values content = if values then meaning_or_letters (content_letters content) content else []
 
 -- what was written, if anything was
-abbrev pub written_text : List ℕ → List ℕ
-written_text [] = []
-written_text (byte ∷ bytes) = codes " write" ++ spaced (byte ∷ bytes)
+abbrev pub written_bytes_text : List ℕ → List ℕ
+written_bytes_text [] = []
+written_bytes_text (byte ∷ bytes) = codes " write" ++ spaced (byte ∷ bytes)
 
 -- what was written, or that nothing was
 abbrev pub sent_text : List ℕ → List ℕ
@@ -304,7 +302,7 @@ sent_text (byte ∷ bytes) = codes " write" ++ spaced (byte ∷ bytes)
 -- what was written and answered
 abbrev pub carried_by : List ℕ → Option (List ℕ) → List ℕ
 carried_by written None = sent_text written
-carried_by written (Some answer) = written_text written ++ (codes " read" ++ spaced answer)
+carried_by written (Some answer) = written_bytes_text written ++ (codes " read" ++ spaced answer)
 
 -- what is said of a packet that has no right PEC
 abbrev pub ones_text : Ones → List ℕ
@@ -314,8 +312,8 @@ ones_text Nobody = codes ", all ones: nobody answered"
 ones_text (Refused refusal) = codes ", no PEC"
 
 -- whether the packet has its PEC
-abbrev pub verdict_text : Bool → Ones → List ℕ
-verdict_text is_right ones = if is_right then codes ", PEC right" else ones_text ones
+abbrev pub pec_verdict_text : Bool → Ones → List ℕ
+pec_verdict_text is_right ones = if is_right then codes ", PEC right" else ones_text ones
 
 -- the page of a carried code, or with a question mark the output that PAGE selects
 abbrev pub content_page : Option ℕ → Option ℕ → List ℕ
@@ -326,8 +324,8 @@ content_page None (Some page) = codes " page " ++ decimal page
 -- `reached` is the output that PAGE selects, if that is followed
 unfoldable pub content_text : Bool → Option ℕ → ContentBytes → List ℕ
 content_text values reached content = content_page reached content.page ++ (codes " code " ++ (hex_byte content.code
-    ++ (named content.code ++ (carried_by content.written content.answer ++ content_meaning values content))))
+    ++ (named_code_text content.code ++ (carried_by content.written content.answer ++ content_meaning values content))))
 
 unfoldable pub other_text : Otherwise → List ℕ → Option (List ℕ) → List ℕ
 other_text otherwise write read = hex_byte otherwise.addr ++ (content_text otherwise.values otherwise.reached (content_of write read)
-    ++ verdict_text (has_pec write read) otherwise.ones)
+    ++ pec_verdict_text (has_pec write read) otherwise.ones)

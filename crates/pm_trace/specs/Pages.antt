@@ -119,12 +119,12 @@ line_since lost None = None
 line_since lost (Some line) = if nat_lt lost line then Some line else None
 
 -- the page isn't known any more
-abbrev pub ended : Place → Place
-ended place = record place { page = None; written = None }
+abbrev pub place_without_page : Place → Place
+place_without_page place = record place { page = None; written = None }
 
 -- the page isn't known any more, and what else a restart changes isn't either
-abbrev pub restarted : Place → Place
-restarted place = record (ended place) { locked = None; phase = None }
+abbrev pub place_restarted : Place → Place
+place_restarted place = record (place_without_page place) { locked = None; phase = None }
 
 -- when a packet comes at a time, where something was lost in the line `lost`
 abbrev pub come : ℕ → ℕ → Option ℕ → Place → Place
@@ -152,8 +152,8 @@ output_by page (SetsPhase number) = option_map (λ said. said.page) page
 output_by page Lost = None
 output_by page Beside = None
 
-abbrev pub output_of : Place → PageUse → Option ℕ
-output_of place used = output_by place.page used
+abbrev pub output_by_use : Place → PageUse → Option ℕ
+output_by_use place used = output_by place.page used
 
 -- the line that wrote another page than this one
 abbrev pub written_else : ℕ → Option PageLine → Option ℕ
@@ -196,28 +196,28 @@ is_forbidden place Beside = false
 -- ---- what is known behind a packet
 
 -- what a line says of the page
-abbrev pub said_in : ℕ → ℕ → PageLine
-said_in line number = record { page = number; line = line }
+abbrev pub page_said_in : ℕ → ℕ → PageLine
+page_said_in line number = record { page = number; line = line }
 
 -- A packet of PAGE that isn't clear: behind a read the page is what it was, behind one that may have written it nobody knows
 -- which it is.
 abbrev pub unsure : ℕ → Bool → Place → Place
-unsure line writes place = record (if writes then ended place else place) { failed = Some line }
+unsure line writes place = record (if writes then place_without_page place else place) { failed = Some line }
 
 -- a clear packet of PAGE gave this page
 abbrev pub on_page : ℕ → ℕ → Place → Place
-on_page line number place = record place { page = Some (said_in line number); failed = None; heard = true }
+on_page line number place = record place { page = Some (page_said_in line number); failed = None; heard = true }
 
 -- behind the packet in this line
 abbrev pub behind : ℕ → Place → PageUse → Place
 behind line place (Written number) = if is_some place.locked then place
-    else record (on_page line number place) { written = Some (said_in line number) }
+    else record (on_page line number place) { written = Some (page_said_in line number) }
 behind line place (ReadBack number) = on_page line number place
 behind line place (Failed writes) = unsure line writes place
-behind line place Restored = restarted place
+behind line place Restored = place_restarted place
 behind line place (Protects all) = record place { locked = if all then Some line else None }
-behind line place (SetsPhase number) = record place { phase = if number == 0xFF then None else Some (said_in line number) }
-behind line place Lost = restarted place
+behind line place (SetsPhase number) = record place { phase = if number == 0xFF then None else Some (page_said_in line number) }
+behind line place Lost = place_restarted place
 behind line place OfOutput = place
 behind line place Beside = place
 
@@ -236,32 +236,32 @@ abbrev pub lost_in : ℕ → Pages → Pages
 lost_in line pages = record pages { lost = line }
 
 -- what is kept of an address
-abbrev pub place_of : Pages → ℕ → Place
-place_of pages addr = unwrap_or (lookup (nat_eq addr) pages.places) nowhere
+abbrev pub page_place_of : Pages → ℕ → Place
+page_place_of pages addr = unwrap_or (lookup (nat_eq addr) pages.places) nowhere
 
 -- an address when a packet comes at a time
 abbrev pub place_in : ℕ → Option ℕ → Pages → ℕ → Place
-place_in gap time pages addr = come pages.lost gap time (place_of pages addr)
+place_in gap time pages addr = come pages.lost gap time (page_place_of pages addr)
 
 -- a packet says nothing of PAGE
-abbrev pub is_silent : PageUse → Bool
-is_silent OfOutput = true
-is_silent Beside = true
-is_silent (Written number) = false
-is_silent (ReadBack number) = false
-is_silent (Failed writes) = false
-is_silent Restored = false
-is_silent (Protects all) = false
-is_silent (SetsPhase number) = false
-is_silent Lost = false
+abbrev pub says_no_page : PageUse → Bool
+says_no_page OfOutput = true
+says_no_page Beside = true
+says_no_page (Written number) = false
+says_no_page (ReadBack number) = false
+says_no_page (Failed writes) = false
+says_no_page Restored = false
+says_no_page (Protects all) = false
+says_no_page (SetsPhase number) = false
+says_no_page Lost = false
 
 -- behind the packet of this line, at an address if it has one, where that was such a place; one that says nothing of PAGE and
 -- has no time leaves what was known
 abbrev pub pages_by : ℕ → Option ℕ → Place → PageUse → Pages → Pages
 pages_by line None place used pages = pages
-pages_by line (Some addr) place used pages = if is_silent used && not (is_some place.time) then pages
+pages_by line (Some addr) place used pages = if says_no_page used && not (is_some place.time) then pages
     else record pages { places = insert_entry nat_eq pages.places addr (behind line place used) }
 
 -- behind a comment of this line that shows a packet which says so of its page
 abbrev pub pages_shown : ℕ → ℕ → PageUse → Pages → Pages
-pages_shown line addr used pages = pages_by line (Some addr) (place_of pages addr) used pages
+pages_shown line addr used pages = pages_by line (Some addr) (page_place_of pages addr) used pages

@@ -10,5 +10,5 @@ judged_in (shown.Faulty addr read fault) = Faulty addr read fault
 judged_in shown.BadSyntax = BadSyntax
 judged_in shown.BadHex = BadHex
 
-abbrev pub told_in : (ℕ × Shown) → ToldLine
-told_in line = (line.0, judged_in line.1)
+abbrev pub told_in_shown_line : (ℕ × Shown) → ToldLine
+told_in_shown_line line = (line.0, judged_in line.1)

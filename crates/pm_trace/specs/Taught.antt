@@ -2,7 +2,7 @@
 -- VOUT_MODE for each output, until the mode may have changed; for each address, each code that has a voltage and each side the last
 -- good answer to COEFFICIENTS; and the addresses that answered a read of VOUT_MODE with ULINEAR16, since the readings of such a part
 -- are LINEAR11. That these decide is this project's own choice.
-use Rattle.std.specs.Prelude.{ℕ, ◌/◌, Bool, true, not, is_some, ◌&&◌, ◌||◌, ◌==◌, nat_eq, nat_lt, if◌then◌else◌, List, [], ◌∷◌, slice_index, option_map, Option, Some, None, Result, Ok, Err}
+use Rattle.std.specs.Prelude.{ℕ, ◌/◌, Bool, true, not, is_some, ◌&&◌, ◌||◌, ◌==◌, nat_eq, nat_lt, if◌then◌else◌, List, [], ◌∷◌, slice_index, Option, Some, None, Result, Ok, Err}
 use Rattle.std.specs.Map.{lookup}
 use Rattle.std.specs.Option.{option_or}
 use Rattle.std.specs.Result.{result_ok}
@@ -38,8 +38,8 @@ abbrev pub untaught : Taught
 untaught = record { modes = no_modes; to_write = []; to_read = []; linear = [] }
 
 -- the codes whose words are voltages of an output
-abbrev pub is_voltage : ℕ → Bool
-is_voltage code = is_voltage_code code || code == command.read_vout
+abbrev pub is_output_voltage_code : ℕ → Bool
+is_output_voltage_code code = is_voltage_code code || code == command.read_vout
 
 -- ---- what a line teaches
 
@@ -68,7 +68,7 @@ side_taught taught side key coefficients =
     else (if side == 1 then record taught { to_read = insert_entry nat_eq taught.to_read key coefficients } else taught)
 
 abbrev pub coefficients_taught : Taught → ℕ → ℕ → ℕ → List ℕ → Taught
-coefficients_taught taught addr code side answer = if is_voltage code
+coefficients_taught taught addr code side answer = if is_output_voltage_code code
     then side_taught taught side (key_of addr code) (coefficients_of answer) else taught
 
 -- a good answer to a request; `reached` is the output that a plain packet reaches, if it is known
@@ -155,8 +155,8 @@ coefficients_known taught is_read key =
     else option_or (lookup (nat_eq key) taught.to_write) (lookup (nat_eq key) taught.to_read)
 
 -- the format of a voltage, if it is known
-abbrev pub voltage_shape : Option Shape → Taught → Asked → Option Shape
-voltage_shape given taught asked = shape_of_mode given asked.code (page_mode taught.modes asked.addr asked.page)
+abbrev pub taught_voltage_shape : Option Shape → Taught → Asked → Option Shape
+taught_voltage_shape given taught asked = shape_of_mode given asked.code (page_mode taught.modes asked.addr asked.page)
     (coefficients_known taught asked.is_read (key_of asked.addr asked.code))
 
 -- ---- the formats that are given
@@ -185,17 +185,17 @@ reading_shape readings taught addr code =
     option_or (format_given readings addr code) (linear_if (lookup (nat_eq addr) taught.linear))
 
 -- the codes whose words are readings, each in a format of its own
-abbrev pub is_reading : ℕ → Bool
-is_reading code = code == command.read_vin || (code == command.read_iout || code == command.read_temperature_1)
+abbrev pub is_reading_code : ℕ → Bool
+is_reading_code code = code == command.read_vin || (code == command.read_iout || code == command.read_temperature_1)
 
 -- the format of a reading is only assumed: neither the capture nor an option gave it
 abbrev pub is_assumed : GivenFormats → Taught → ℕ → ℕ → Bool
-is_assumed given taught addr code = is_reading code
+is_assumed given taught addr code = is_reading_code code
     && (not (is_some (format_given given.readings addr code)) && is_some (lookup (nat_eq addr) taught.linear))
 
 -- ---- the format of a word
 
 abbrev pub packet_shape : GivenFormats → Taught → Asked → Option Shape
 packet_shape given taught asked =
-    if is_voltage asked.code then voltage_shape (format_given given.vout asked.addr asked.code) taught asked
-    else (if is_reading asked.code then reading_shape given.readings taught asked.addr asked.code else None)
+    if is_output_voltage_code asked.code then taught_voltage_shape (format_given given.vout asked.addr asked.code) taught asked
+    else (if is_reading_code asked.code then reading_shape given.readings taught asked.addr asked.code else None)

@@ -11,7 +11,7 @@ use Rattle.pm_frame.specs.declared.fault.FrameFault.TheVariants.{NotOurs}
 use Rattle.pm_frame.specs.declared.message.Message.{Message}
 use Rattle.pm_lines.specs.Pairs.{byte_of}
 use Rattle.pm_lines.specs.Lines.{Numbered, is_space, unskipped_from}
-use Rattle.pm_trace.specs.Marks.{before, after}
+use Rattle.pm_trace.specs.Marks.{before, after_first_mark}
 use Rattle.pm_trace.specs.declared.line_fault.LineFault.{LineFault}
 use Rattle.pm_trace.specs.declared.line_fault.LineFault.TheVariants as fault
 use Rattle.pm_trace.specs.declared.trace_line.TraceLine.{TraceLine}
@@ -26,10 +26,10 @@ abbrev pub is_separator : ℕ → Bool
 is_separator byte = is_space byte || is_slash byte
 
 -- the bytes that a word's digits write, two digits a byte
-abbrev pub word_bytes : List ℕ → List ℕ
-word_bytes [] = []
-word_bytes (digit ∷ []) = []
-word_bytes (high ∷ low ∷ digits) = byte_of high low ∷ word_bytes digits
+abbrev pub bytes_of_digits : List ℕ → List ℕ
+bytes_of_digits [] = []
+bytes_of_digits (digit ∷ []) = []
+bytes_of_digits (high ∷ low ∷ digits) = byte_of high low ∷ bytes_of_digits digits
 
 -- the last digit of a word, where it has no other to make a byte with
 abbrev pub unpaired : List ℕ → Option ℕ
@@ -44,7 +44,7 @@ is_bad_word word = not (list_all is_hex_digit word) || is_some (unpaired word)
 -- the bytes that the words of a part write; nothing stands between two separators that are
 -- neighbours, which is a word of no bytes
 abbrev pub part_bytes : List ℕ → List ℕ
-part_bytes part = flat_map word_bytes (slice_split is_separator part)
+part_bytes part = flat_map bytes_of_digits (slice_split is_separator part)
 
 -- ---- a line
 
@@ -62,14 +62,14 @@ is_long part = nat_lt max_part (length (part_bytes part))
 
 -- it has a second slash, or a part is too long
 abbrev pub is_misshapen : List ℕ → Bool
-is_misshapen line = list_any is_slash (after is_slash line)
-    || (is_long (before is_slash line) || is_long (after is_slash line))
+is_misshapen line = list_any is_slash (after_first_mark is_slash line)
+    || (is_long (before is_slash line) || is_long (after_first_mark is_slash line))
 
 -- the bytes of its parts; there is a read part where there is a slash
 abbrev pub parts_of : List ℕ → TraceLine
 parts_of line = record {
   write = part_bytes (before is_slash line);
-  read = if list_any is_slash line then Some (part_bytes (after is_slash line)) else None;
+  read = if list_any is_slash line then Some (part_bytes (after_first_mark is_slash line)) else None;
 }
 
 -- the bytes that a line writes. X2 wins over X1.
@@ -139,9 +139,9 @@ line_judged line = reading_judged (line_read line)
 abbrev pub ToldLine : Type 0
 ToldLine = ℕ × Judged
 
-abbrev pub told_of : Numbered → ToldLine
-told_of numbered = (numbered.0, line_judged numbered.1)
+abbrev pub told_of_line : Numbered → ToldLine
+told_of_line numbered = (numbered.0, line_judged numbered.1)
 
 -- what the lines of a trace say that are not skipped
 unfoldable pub trace_of : List ℕ → List ToldLine
-trace_of text = map told_of (unskipped_from 1 text)
+trace_of text = map told_of_line (unskipped_from 1 text)

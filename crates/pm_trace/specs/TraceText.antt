@@ -81,34 +81,34 @@ unfoldable pub told_text : ToldLine → List ℕ
 told_text told = decimal told.0 ++ (codes " " ++ judged_text told.0 told.1)
 
 -- a line's text with its line feed
-abbrev pub told_line : ToldLine → List ℕ
-told_line told = told_text told ++ codes "\n"
+abbrev pub told_line_text : ToldLine → List ℕ
+told_line_text told = told_text told ++ codes "\n"
 
-abbrev pub told_lines : List ToldLine → List ℕ
-told_lines lines = flat_map told_line lines
+abbrev pub told_lines_text : List ToldLine → List ℕ
+told_lines_text lines = flat_map told_line_text lines
 
 -- ---- the counts
 
 unfoldable pub count_line : (ℕ × ℕ) → List ℕ
 count_line entry = codes "count " ++ name_of entry.0 ++ codes " " ++ decimal entry.1 ++ codes "\n"
 
-unfoldable pub totals_line : Counts → List ℕ
-totals_line counts =
+unfoldable pub decode_totals_line : Counts → List ℕ
+decode_totals_line counts =
     codes "lines " ++ decimal (lines_in counts) ++ codes " accepted " ++ decimal counts.accepted
     ++ codes " faults " ++ decimal counts.faults ++ codes " bad " ++ decimal counts.bad ++ codes "\n"
 
-abbrev pub counts_text : Counts → List ℕ
-counts_text counts = flat_map count_line counts.codes ++ totals_line counts
+abbrev pub decode_counts_text : Counts → List ℕ
+decode_counts_text counts = flat_map count_line counts.codes ++ decode_totals_line counts
 
 -- ---- the whole
 
 -- what is written of a trace
 unfoldable pub trace_text : List ℕ → List ℕ
-trace_text text = told_lines (trace_of text) ++ counts_text (counts_of (trace_of text))
+trace_text text = told_lines_text (trace_of text) ++ decode_counts_text (counts_of (trace_of text))
 
 -- how it ends: there are bad lines, or none
-abbrev pub end_of : Counts → DecodeEnd
-end_of counts = if counts.bad == 0 then Clean else BadLines
+abbrev pub decode_end_of : Counts → DecodeEnd
+decode_end_of counts = if counts.bad == 0 then Clean else BadLines
 
 -- why `decode` refuses
 abbrev pub IsOfDecode : TextFault → Type 0

@@ -44,13 +44,13 @@ unfoldable pub relative_text : ℤ → List ℕ
 relative_text n = codes "ULINEAR16 " ++ (signed_decimal n ++ codes " relative")
 
 -- the digits after the point of so many millionths, fewer than a million: at most this many, and no zero at their end
-abbrev pub places : ℕ → ℕ → List ℕ
-places zero part = []
-places (suc n) part = if part == 0 then [] else decimal (part * 10 / 1000000) ++ places n (part * 10 % 1000000)
+abbrev pub digits_after_point : ℕ → ℕ → List ℕ
+digits_after_point zero part = []
+digits_after_point (suc n) part = if part == 0 then [] else decimal (part * 10 / 1000000) ++ digits_after_point n (part * 10 % 1000000)
 
 -- the point and what follows it, if that isn't 0
 abbrev pub point_text : ℕ → List ℕ
-point_text part = if part == 0 then [] else codes "." ++ places 6 part
+point_text part = if part == 0 then [] else codes "." ++ digits_after_point 6 part
 
 abbrev pub size_text : ℕ → List ℕ
 size_text size = decimal (size / 1000000) ++ point_text (size % 1000000)
@@ -59,9 +59,9 @@ unfoldable pub minus : List ℕ
 minus = codes "-"
 
 -- millionths as a decimal number
-abbrev pub decimal_of : ℤ → List ℕ
-decimal_of (pos size) = size_text size
-decimal_of (negsuc below) = minus ++ size_text (below + 1)
+abbrev pub millionths_text : ℤ → List ℕ
+millionths_text (pos size) = size_text size
+millionths_text (negsuc below) = minus ++ size_text (below + 1)
 
 -- the names of the bits that are set; each bit of a status has a name
 abbrev pub flags_text : Status → ℕ → List ℕ
@@ -113,7 +113,7 @@ unfoldable pub revision_text : ℕ → List ℕ
 revision_text byte = codes "Part I " ++ (part_text (byte / 16) ++ (codes ", Part II " ++ part_text (byte % 16)))
 
 unfoldable pub value_text : Value → List ℕ
-value_text (Measured ratio unit) = decimal_of (millionths ratio) ++ (codes " " ++ unit_text unit)
+value_text (Measured ratio unit) = millionths_text (millionths ratio) ++ (codes " " ++ unit_text unit)
 value_text (Operates byte) = operation_text byte
 value_text (Protects byte) = protection_text byte
 value_text (Scales mode) = mode_text mode

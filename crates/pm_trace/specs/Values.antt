@@ -9,7 +9,7 @@ use Rattle.pm_num.specs.AnyFormat.{Shape, shape_value}
 use Rattle.pm_num.specs.Ratio.{Ratio}
 use Rattle.pm_table.specs.Codes as command
 use Rattle.pm_table.specs.VoutMode.{exponent_of, mode_of}
-use Rattle.pm_trace.specs.Taught.{Taught, is_relative, is_voltage, packet_shape}
+use Rattle.pm_trace.specs.Taught.{Taught, is_relative, is_output_voltage_code, packet_shape}
 use Rattle.pm_trace.specs.declared.lessons.Asked.{Asked}
 use Rattle.pm_trace.specs.declared.status.Status.TheVariants as status
 use Rattle.pm_trace.specs.declared.value.Value.{Value}
@@ -17,6 +17,7 @@ use Rattle.pm_trace.specs.declared.value.Value.TheVariants.{Measured, Operates, 
 use Rattle.pm_trace.specs.declared.formats.GivenFormats.{GivenFormats}
 use Rattle.pm_trace.specs.declared.value.Unit.{Unit as MeasureUnit}
 use Rattle.pm_trace.specs.declared.value.Unit.TheVariants as unit
+use Rattle.pm_table.specs.Cell.{is_protection}
 
 -- ---- numbers
 
@@ -30,12 +31,8 @@ millionths value = int_div_euclid (value.num *ℤ pos 1000000) (pos value.den)
 abbrev pub byte_in : List ℕ → ℕ
 byte_in bytes = slice_index bytes 0
 
-abbrev pub word_in : List ℕ → ℕ
-word_in bytes = slice_index bytes 0 + 256 * slice_index bytes 1
-
--- a byte of WRITE_PROTECT that lets some writes through
-abbrev pub is_protection : ℕ → Bool
-is_protection byte = byte == 0x00 || (byte == 0x20 || (byte == 0x40 || byte == 0x80))
+abbrev pub word_in_bytes : List ℕ → ℕ
+word_in_bytes bytes = slice_index bytes 0 + 256 * slice_index bytes 1
 
 abbrev pub protects : ℕ → Option Value
 protects byte = if is_protection byte then Some (Protects byte) else None
@@ -62,17 +59,17 @@ measured (Some shape) word unit = Some (Measured (shape_value shape word) unit)
 -- the value of a code's payload, with the format of its word if that is a number
 abbrev pub code_value : Option Shape → ℕ → List ℕ → Option Value
 code_value shape code bytes =
-    if is_voltage code then measured shape (word_in bytes) unit.Volt
-    else (if code == command.read_vin then measured shape (word_in bytes) unit.Volt
-    else (if code == command.read_iout then measured shape (word_in bytes) unit.Ampere
-    else (if code == command.read_temperature_1 then measured shape (word_in bytes) unit.Celsius
+    if is_output_voltage_code code then measured shape (word_in_bytes bytes) unit.Volt
+    else (if code == command.read_vin then measured shape (word_in_bytes bytes) unit.Volt
+    else (if code == command.read_iout then measured shape (word_in_bytes bytes) unit.Ampere
+    else (if code == command.read_temperature_1 then measured shape (word_in_bytes bytes) unit.Celsius
     else (if code == command.operation then operates (byte_in bytes)
     else (if code == command.write_protect then protects (byte_in bytes)
     else (if code == command.vout_mode then mode_value (byte_in bytes)
-    else (if code == command.status_byte then Some (Flags status.Byte (word_in bytes))
-    else (if code == command.status_word then Some (Flags status.Word (word_in bytes))
-    else (if code == command.status_vout then Some (Flags status.Vout (word_in bytes))
-    else (if code == command.status_cml then Some (Flags status.Cml (word_in bytes))
+    else (if code == command.status_byte then Some (Flags status.Byte (word_in_bytes bytes))
+    else (if code == command.status_word then Some (Flags status.Word (word_in_bytes bytes))
+    else (if code == command.status_vout then Some (Flags status.Vout (word_in_bytes bytes))
+    else (if code == command.status_cml then Some (Flags status.Cml (word_in_bytes bytes))
     else (if code == command.capability then Some (Capable (byte_in bytes))
     else (if code == command.pmbus_revision then revises (byte_in bytes)
     else None))))))))))))
@@ -82,14 +79,14 @@ abbrev pub carried : Message → Option (List ℕ) → List ℕ
 carried message answer = unwrap_or answer (message_payload message)
 
 -- the output of a packet: the one that it names, or that a plain one reaches, if it is known
-abbrev pub output_of : Option ℕ → Message → Option ℕ
-output_of reached message = option_or (message_page message) reached
+abbrev pub output_of_packet : Option ℕ → Message → Option ℕ
+output_of_packet reached message = option_or (message_page message) reached
 
 -- the word of a packet whose format is asked for
-abbrev pub asked_by : ℕ → Option ℕ → Message → Option (List ℕ) → Asked
-asked_by addr reached message answer = record {
+abbrev pub format_asked_by_packet : ℕ → Option ℕ → Message → Option (List ℕ) → Asked
+format_asked_by_packet addr reached message answer = record {
   addr = addr;
-  page = output_of reached message;
+  page = output_of_packet reached message;
   code = message_code message;
   is_read = is_some answer;
 }
@@ -97,7 +94,8 @@ asked_by addr reached message answer = record {
 -- the value of a packet at an address; `reached` is the output that a plain packet reaches, if it is known
 abbrev pub packet_value : GivenFormats → Taught → ℕ → Option ℕ → Message → Option (List ℕ) → Option Value
 packet_value given taught addr reached message answer =
-    code_value (packet_shape given taught (asked_by addr reached message answer)) (message_code message) (carried message answer)
+    code_value (packet_shape given taught (format_asked_by_packet addr reached message answer)) (message_code message)
+    (carried message answer)
 
 -- ---- codes that the command table doesn't have
 

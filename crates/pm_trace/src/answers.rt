@@ -2,8 +2,8 @@
 ghost use Rattle.std.specs.Prelude.{◌≡◌, ◌≤◌, length, option_map};
 ghost use Rattle.pm_trace.specs.ShownLines.{judged_in};
 ghost use Rattle.pm_trace.specs.Trace.{parts_judged};
-ghost use Rattle.pm_trace.specs.Answers.{is_answer as spec_is_answer, leading_ones as spec_leading_ones, written_part as spec_written_part};
-ghost use Rattle.pm_trace.specs.Otherwise.{are_strange, is_answer as was_answered, is_heeded, is_refused};
+ghost use Rattle.pm_trace.specs.Answers.{is_written_back as spec_is_answer, leading_ones as spec_leading_ones, written_part as spec_written_part};
+ghost use Rattle.pm_trace.specs.Otherwise.{are_strange, ones_are_answer as was_answered, is_heeded, is_refused};
 ghost use Rattle.pm_trace.specs.Modes.{key_of as spec_key_of};
 
 use crate::otherwise::completed_part;
@@ -93,6 +93,7 @@ impl Model for Answers {
 }
 
 impl Answers {
+    ghost use Rattle.indexmap.specs.IndexMap.{insert_entry};
     ghost use Rattle.std.specs.Map.{lookup};
     ghost use Rattle.std.specs.Prelude.{OnOk, Some, is_some, nat_eq, true};
     ghost use Rattle.pm_trace.specs.Answers.{answered_by, answers_by, checked_at, has_answered, none_heard, ones_at, ones_of, part_written};
@@ -193,12 +194,31 @@ impl Answers {
         ensures { OnOk result (self.new ≡ part_written addr (code, part.now) self.old) }
     {
         let ones = leading_ones(part);
+        if ones == 0 && self.written.is_empty() {
+            return Ok(());
+        }
+        let written = WrittenOnes {
+            ones,
+            bytes: part.len(),
+        };
         let key = key_of(addr, code);
-        if ones > 0 || self.written.len() > 0 {
-            let bytes = part.len();
-            self.written.insert(key, WrittenOnes { ones, bytes })?;
+        if !self.is_first_written(key, written) {
+            self.written.insert(key, written)?;
         }
         Ok(())
+    }
+
+    // Whether these bytes were written last to the first code that was written so, which needs no look-up then.
+    #[tactic(auto, using(crate::proofs::ValueLemmas::kept_first))]
+    fn is_first_written(&self, key: u16, written: WrittenOnes) -> bool
+        ensures { result ≡ true → insert_entry nat_eq self.now.written key written ≡ self.now.written }
+    {
+        match self.written.get_index(0) {
+            Some((first, last)) if *first == key && last.ones == written.ones => {
+                last.bytes == written.bytes
+            }
+            _ => false,
+        }
     }
 }
 

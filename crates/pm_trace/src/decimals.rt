@@ -1,6 +1,6 @@
 //! Numbers in whole millionths.
 ghost use Rattle.std.specs.Prelude.{◌≡◌, ◌++◌, ◌*◌, ◌/◌, ◌%◌, ◌^◌, ◌<◌, ◌≤ℤ◌, ◌<ℤ◌, pos, neg_ℤ, unsigned_abs, OnOk, string_bytes};
-ghost use Rattle.pm_trace.specs.ValueText.{decimal_of, minus as minus_text, places, point_text, size_text};
+ghost use Rattle.pm_trace.specs.ValueText.{millionths_text, minus as minus_text, digits_after_point, point_text, size_text};
 ghost use Rattle.pm_trace.specs.Values.{millionths as spec_millionths};
 
 use pm_lines::push_decimal;
@@ -11,7 +11,7 @@ use std::alloc::AllocError;
 /// `3.300048`.
 #[tactic(auto, using(pm_lines::specs::Lemmas::Joins::joins))]
 pub fn push_millionths(text: &mut String, ratio: Frac) -> Result<(), AllocError>
-    ensures { OnOk result (string_bytes text.new ≡ string_bytes text.old ++ decimal_of (spec_millionths ratio)) }
+    ensures { OnOk result (string_bytes text.new ≡ string_bytes text.old ++ millionths_text (spec_millionths ratio)) }
 {
     push_decimal_number(text, millionths(ratio))
 }
@@ -21,7 +21,7 @@ pub fn push_millionths(text: &mut String, ratio: Frac) -> Result<(), AllocError>
 fn push_decimal_number(text: &mut String, size: i128) -> Result<(), AllocError>
     requires least { neg_ℤ (pos (2 ^ 55 * 1000000)) ≤ℤ size }
     requires most { size ≤ℤ pos (2 ^ 55 * 1000000) }
-    ensures { OnOk result (string_bytes text.new ≡ string_bytes text.old ++ decimal_of size) }
+    ensures { OnOk result (string_bytes text.new ≡ string_bytes text.old ++ millionths_text size) }
 {
     if size < 0 {
         push_negative(text, size)
@@ -102,7 +102,7 @@ fn push_point(text: &mut String, part: u64) -> Result<(), AllocError>
 #[tactic(auto, using(pm_lines::specs::Lemmas::Joins::joins))]
 fn push_places(text: &mut String, most: u32, part: u64) -> Result<(), AllocError>
     requires { part < 1000000 }
-    ensures { OnOk result (string_bytes text.new ≡ string_bytes text.old ++ places most part) }
+    ensures { OnOk result (string_bytes text.new ≡ string_bytes text.old ++ digits_after_point most part) }
 {
     if most == 0 || part == 0 {
         return Ok(());

@@ -52,15 +52,15 @@ impl Decoder {
     ghost use Rattle.std.specs.Prelude.{[], ◌⊎◌, ◌+◌, ◌≤◌, ◌<◌, length, take, None, Some, IfSome, IfOk, IfErr, OnOk, OnErr, option_map};
     ghost use Rattle.std.specs.Result.{result_err};
     ghost use Rattle.pm_trace.specs.Counts.{lines_in};
-    ghost use Rattle.pm_trace.specs.Decoding.{IsFresh, Feeds, Finishes, Fails, CarriesNew, refusal_of, taken_of};
-    ghost use Rattle.pm_trace.specs.Decoding.{first_line, told, told_by, some_told, line_told, line_ended};
+    ghost use Rattle.pm_trace.specs.Decoding.{IsFresh, Feeds, Finishes, Fails, CarriesNew, refusal_of_piece, taken_from_piece};
+    ghost use Rattle.pm_trace.specs.Decoding.{first_line, told, told_by_intake, some_told, line_told, line_ended};
     ghost use Rattle.pm_trace.specs.Holdings.{IsBounded, Takes, lines_at_end};
     ghost use Rattle.pm_trace.specs.OpenLines.{is_begun as spec_is_begun};
-    ghost use Rattle.pm_trace.specs.ShownLines.{told_in};
+    ghost use Rattle.pm_trace.specs.ShownLines.{told_in_shown_line};
     ghost use Rattle.pm_lines.specs.Streams.{max_text};
 
     /// A decoder that took no byte. Takes no memory.
-    #[tactic(auto, unfolding(crate::specs::Decoding::now, crate::specs::Decoding::said, crate::specs::Counts::counts_of))]
+    #[tactic(auto, unfolding(crate::specs::Decoding::kept_of_bytes, crate::specs::Decoding::said, crate::specs::Counts::counts_of))]
     pub fn new(alloc: Global) -> Decoder
         ensures { IsFresh result }
     {
@@ -100,10 +100,10 @@ impl Decoder {
         ensures failed { IfErr result (λ fault. Fails self.old fault self.new) }
 
         // X3 and a repeated refusal come exactly when they are due, and X6 only for a new code.
-        ensures taken { OnOk result (refusal_of self.old piece.now ≡ None) }
-        ensures refused { IfErr result (λ fault. (refusal_of self.old piece.now ≡ Some fault)
-            ⊎ ((refusal_of self.old piece.now ≡ None) × (fault ≡ TextFault.Memory)
-            × CarriesNew self.old.kept.counts (told self.old.kept (taken_of self.old piece.now)))) }
+        ensures taken { OnOk result (refusal_of_piece self.old piece.now ≡ None) }
+        ensures refused { IfErr result (λ fault. (refusal_of_piece self.old piece.now ≡ Some fault)
+            ⊎ ((refusal_of_piece self.old piece.now ≡ None) × (fault ≡ TextFault.Memory)
+            × CarriesNew self.old.kept.counts (told self.old.kept (taken_from_piece self.old piece.now)))) }
     {
         let fed = self.take(piece);
         if let Err(fault) = fed {
@@ -118,10 +118,10 @@ impl Decoder {
         ensures within { IfOk result (λ fed. fed.taken ≤ length piece.now) }
         ensures room { self.new.kept.taken ≤ max_text }
         ensures counts { OnErr result (self.new.kept.counts ≡ self.old.kept.counts) }
-        ensures taken { OnOk result (refusal_of self.old piece.now ≡ None) }
-        ensures refused { IfErr result (λ fault. (refusal_of self.old piece.now ≡ Some fault)
-            ⊎ ((refusal_of self.old piece.now ≡ None) × (fault ≡ TextFault.Memory)
-            × CarriesNew self.old.kept.counts (told self.old.kept (taken_of self.old piece.now)))) }
+        ensures taken { OnOk result (refusal_of_piece self.old piece.now ≡ None) }
+        ensures refused { IfErr result (λ fault. (refusal_of_piece self.old piece.now ≡ Some fault)
+            ⊎ ((refusal_of_piece self.old piece.now ≡ None) × (fault ≡ TextFault.Memory)
+            × CarriesNew self.old.kept.counts (told self.old.kept (taken_from_piece self.old piece.now)))) }
     {
         let room = self.room(piece)?;
         self.begin();
@@ -141,8 +141,8 @@ impl Decoder {
         ensures within { IfOk result (λ room. room ≤ length piece.now) }
         ensures room { IfOk result (λ room. self.now.kept.taken + room ≤ max_text) }
         ensures open { IfOk result (λ room. 0 < room → self.now.intake ≡ Intake.Open) }
-        ensures taken { IfOk result (λ room. taken_of self.now piece.now ≡ first_line (take room piece.now)) }
-        ensures refused { result_err result ≡ refusal_of self.now piece.now }
+        ensures taken { IfOk result (λ room. taken_from_piece self.now piece.now ≡ first_line (take room piece.now)) }
+        ensures refused { result_err result ≡ refusal_of_piece self.now piece.now }
     {
         match self.intake {
             Intake::Open => {}
@@ -225,10 +225,10 @@ impl Decoder {
     pub fn finish(&mut self) -> Result<bool, TextFault>
         ensures finished { IfOk result (λ ended. Finishes self.old ended self.new) }
         ensures failed { IfErr result (λ fault. Fails self.old fault self.new) }
-        ensures taken { OnOk result (refusal_of self.old [] ≡ None) }
-        ensures refused { IfErr result (λ fault. (refusal_of self.old [] ≡ Some fault)
-            ⊎ ((refusal_of self.old [] ≡ None) × (fault ≡ TextFault.Memory)
-            × CarriesNew self.old.kept.counts (some_told (told_by self.old.intake self.old.kept)))) }
+        ensures taken { OnOk result (refusal_of_piece self.old [] ≡ None) }
+        ensures refused { IfErr result (λ fault. (refusal_of_piece self.old [] ≡ Some fault)
+            ⊎ ((refusal_of_piece self.old [] ≡ None) × (fault ≡ TextFault.Memory)
+            × CarriesNew self.old.kept.counts (some_told (told_by_intake self.old.intake self.old.kept)))) }
     {
         let ended = self.end();
         if let Err(fault) = ended {
@@ -241,10 +241,10 @@ impl Decoder {
     fn end(&mut self) -> Result<bool, TextFault>
         ensures finished { IfOk result (λ ended. Finishes self.old ended self.new) }
         ensures counts { OnErr result (self.new.kept.counts ≡ self.old.kept.counts) }
-        ensures taken { OnOk result (refusal_of self.old [] ≡ None) }
-        ensures refused { IfErr result (λ fault. (refusal_of self.old [] ≡ Some fault)
-            ⊎ ((refusal_of self.old [] ≡ None) × (fault ≡ TextFault.Memory)
-            × CarriesNew self.old.kept.counts (some_told (told_by self.old.intake self.old.kept)))) }
+        ensures taken { OnOk result (refusal_of_piece self.old [] ≡ None) }
+        ensures refused { IfErr result (λ fault. (refusal_of_piece self.old [] ≡ Some fault)
+            ⊎ ((refusal_of_piece self.old [] ≡ None) × (fault ≡ TextFault.Memory)
+            × CarriesNew self.old.kept.counts (some_told (told_by_intake self.old.intake self.old.kept)))) }
     {
         let is_open = match self.intake {
             Intake::Open => true,
@@ -272,7 +272,7 @@ impl Decoder {
     /// that line is skipped (it is empty, has nothing but spaces or begins with `#`) or the last call ended
     /// none. What is shown borrows the decoder's buffers.
     pub fn line(&self) -> Option<(u64, Shown<'_>)>
-        ensures { option_map told_in result ≡ self.now.shown }
+        ensures { option_map told_in_shown_line result ≡ self.now.shown }
     {
         if !self.is_shown {
             return None;

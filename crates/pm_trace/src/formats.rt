@@ -1,5 +1,5 @@
 //! The formats of words that a user gives.
-ghost use Rattle.std.specs.Prelude.{◌≡◌, option_map};
+ghost use Rattle.std.specs.Prelude.{◌≡◌, ◌∷◌, Some, option_map};
 ghost use Rattle.pm_num.specs.AnyFormat.{shape_of};
 ghost use Rattle.pm_trace.specs.Taught.{direct_only as spec_direct_only, format_given as spec_format_given, is_met as spec_is_met};
 
@@ -29,13 +29,27 @@ pub struct GivenFormats {
 pub(crate) fn format_given(entries: &[Option<GivenFormat>], addr: u8, code: u8) -> Option<AnyFormat>
     ensures { option_map shape_of result ≡ spec_format_given entries.now addr code }
 {
-    let [entry, rest @ ..] = entries else {
-        return None;
-    };
-    match entry {
-        None => None,
-        Some(entry) if is_met(entry.addr, addr) && is_met(entry.code, code) => Some(entry.format),
-        Some(_) => format_given(rest, addr, code),
+    match entries {
+        [Some(entry), rest @ ..] => format_among(entry, rest, addr, code),
+        _ => None,
+    }
+}
+
+// The format of this entry, or of the first one after it.
+fn format_among(
+    entry: &GivenFormat,
+    rest: &[Option<GivenFormat>],
+    addr: u8,
+    code: u8,
+) -> Option<AnyFormat>
+    ensures { option_map shape_of result ≡ spec_format_given (Some entry.now ∷ rest.now) addr code }
+{
+    if is_met(entry.addr, addr) && is_met(entry.code, code) {
+        return Some(entry.format);
+    }
+    match rest {
+        [Some(entry), rest @ ..] => format_among(entry, rest, addr, code),
+        _ => None,
     }
 }
 

@@ -3,7 +3,7 @@ ghost use Rattle.std.specs.Prelude.{◌≡◌, Some, option_map, slice_index};
 ghost use Rattle.pm_num.specs.AnyFormat.{InUlinear16, shape_of};
 ghost use Rattle.pm_num.specs.Formats.{IsExponent};
 ghost use Rattle.pm_table.specs.Codes as command;
-ghost use Rattle.pm_trace.specs.Taught.{format_given as spec_format_given, is_never_relative as spec_is_never_relative, is_reading as spec_is_reading, is_voltage as spec_is_voltage, relative_shape};
+ghost use Rattle.pm_trace.specs.Taught.{format_given as spec_format_given, is_never_relative as spec_is_never_relative, is_reading_code as spec_is_reading, is_output_voltage_code as spec_is_voltage, relative_shape};
 ghost use Rattle.pm_trace.specs.Modes.{key_of as spec_key_of};
 
 use crate::formats::{GivenFormats, direct_only, format_given};
@@ -55,7 +55,7 @@ impl Lessons {
     ghost use Rattle.std.specs.Map.{lookup};
     ghost use Rattle.pm_table.specs.VoutMode.{IsMode};
     ghost use Rattle.pm_trace.specs.ShownLines.{judged_in};
-    ghost use Rattle.pm_trace.specs.Taught.{answer_taught, changed_by, coefficients_known, coefficients_taught, is_assumed, linear_taught, mode_taught, packet_shape, paged_if, reading_shape, shape_known, shape_of_byte, side_taught, taught_by, taught_lost, untaught, voltage_shape};
+    ghost use Rattle.pm_trace.specs.Taught.{answer_taught, changed_by, coefficients_known, coefficients_taught, is_assumed, linear_taught, mode_taught, packet_shape, paged_if, reading_shape, shape_known, shape_of_byte, side_taught, taught_by, taught_lost, untaught, taught_voltage_shape};
 
     /// Nothing yet. Takes no memory.
     pub fn new(alloc: Global) -> Lessons
@@ -250,7 +250,7 @@ impl Lessons {
     // The format of a voltage: that of the mode which was taught, otherwise the one that is given.
     fn voltage_format(&self, given: &GivenFormats, asked: Asked) -> Option<AnyFormat>
         ensures { option_map shape_of result
-            ≡ voltage_shape (spec_format_given given.now.vout asked.addr asked.code) self.now asked }
+            ≡ taught_voltage_shape (spec_format_given given.now.vout asked.addr asked.code) self.now asked }
     {
         match self.modes.of_page(asked.addr, asked.page) {
             None => format_given(&given.vout, asked.addr, asked.code),

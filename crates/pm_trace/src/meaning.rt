@@ -3,7 +3,7 @@ ghost use Rattle.std.specs.Prelude.{◌≡◌, option_map};
 ghost use Rattle.pm_num.specs.AnyFormat.{shape_of};
 ghost use Rattle.pm_num.specs.Formats.{IsExponent};
 ghost use Rattle.pm_table.specs.VoutMode.{exponent_of};
-ghost use Rattle.pm_trace.specs.Values.{byte_in as spec_byte_in, code_value as spec_code_value, measured as spec_measured, mode_value as spec_mode_value, operates, other_value as spec_other_value, packet_value as spec_packet_value, protects, revises, word_in as spec_word_in};
+ghost use Rattle.pm_trace.specs.Values.{byte_in as spec_byte_in, code_value as spec_code_value, measured as spec_measured, mode_value as spec_mode_value, operates, other_value as spec_other_value, packet_value as spec_packet_value, protects, revises, word_in_bytes as spec_word_in};
 
 use crate::formats::GivenFormats;
 use crate::lessons::{Asked, Lessons, is_voltage};

@@ -165,7 +165,7 @@ impl Modes {
     }
 
     // What is known of an output's mode. If nothing was said of any, it needs no look-up.
-    #[tactic(auto, using(crate::proofs::ModeLemmas::none_said))]
+    #[tactic(auto, using(crate::proofs::ValueLemmas::none_said))]
     fn of_output(&self, addr: u8, page: u8) -> Option<Option<u8>>
         ensures { result ≡ output_mode self.now.lost (changed_at self.now addr) (lookup (nat_eq (spec_key_of addr page)) self.now.said) }
     {

@@ -4,7 +4,7 @@ ghost use Rattle.std.specs.Prelude.{◌≡◌, ◌++◌, ◌&&◌, ◌||◌, not
 ghost use Rattle.pm_trace.specs.ShownLines.{judged_in};
 ghost use Rattle.pm_trace.specs.Trace.{parts_judged};
 ghost use Rattle.pm_trace.specs.Contents.{content_in};
-ghost use Rattle.pm_trace.specs.Otherwise.{IsCompleted, address_otherwise as spec_address_otherwise, carried_by, content_meaning, content_page, content_text, has_code as spec_has_code, is_accepted, are_strange, is_miscounted as spec_is_miscounted, is_of_code as spec_is_of_code, is_read_from, is_short as spec_is_short, judged_with, lacks_pec, letters_text, named_by, ones_text, other_text, sent_text, spaced, verdict_text, written_text};
+ghost use Rattle.pm_trace.specs.Otherwise.{IsCompleted, address_otherwise as spec_address_otherwise, carried_by, content_meaning, content_page, content_text, has_address_and_code as spec_has_code, is_accepted, are_strange, is_miscounted as spec_is_miscounted, is_of_code as spec_is_of_code, is_read_from, is_short as spec_is_short, judged_with, lacks_pec, letters_text, named_by, ones_text, other_text, sent_text, spaced, pec_verdict_text, written_bytes_text};
 
 use crate::answers::Ones;
 use crate::code_names::standard_name;
@@ -194,7 +194,7 @@ pub fn push_otherwise(
 
 // What is said of a packet's PEC.
 fn verdict(is_right: bool, ones: Ones) -> &'static str
-    ensures { result.now ≡ verdict_text is_right ones }
+    ensures { result.now ≡ pec_verdict_text is_right ones }
 {
     if is_right {
         ", PEC right"
@@ -319,7 +319,7 @@ fn push_sent(text: &mut String, bytes: &[u8]) -> Result<(), AllocError>
 // What was written, if anything was.
 #[tactic(auto, using(pm_lines::specs::Lemmas::Joins::joins))]
 fn push_written(text: &mut String, bytes: &[u8]) -> Result<(), AllocError>
-    ensures { OnOk result (string_bytes text.new ≡ string_bytes text.old ++ written_text bytes.now) }
+    ensures { OnOk result (string_bytes text.new ≡ string_bytes text.old ++ written_bytes_text bytes.now) }
 {
     if bytes.is_empty() {
         return Ok(());

@@ -1,7 +1,8 @@
 //! A packet by its bytes.
 ghost use Rattle.std.specs.List.{list_all};
 ghost use Rattle.std.specs.Prelude.{[], ◌≡◌, ◌==◌, ◌-◌, ◌/◌, ◌≤◌, IfSome, drop, is_some, length, nat_lt, option_map, slice_index, take, unwrap_or};
-ghost use Rattle.pm_trace.specs.Otherwise.{IsCompleted, are_ones as spec_are_ones, ends_in_pec as spec_ends_in_pec, fewest_read as spec_fewest_read, fewest_written as spec_fewest_written, has_pec as spec_has_pec, is_all_ones as spec_is_all_ones, is_of_word as spec_is_of_word, last_part, shown_of as spec_shown_of, with_pec as spec_with_pec};
+ghost use Rattle.pm_trace.specs.Otherwise.{IsCompleted, are_ones as spec_are_ones, ends_in_pec as spec_ends_in_pec, fewest_read as spec_fewest_read, fewest_written as spec_fewest_written, has_pec as spec_has_pec, is_all_ones as spec_is_all_ones, is_of_word as spec_is_of_word, last_part, shown_of as spec_shown_of};
+ghost use Rattle.pm_frame.specs.Layout.{with_pec as spec_with_pec};
 
 use arrayvec::ArrayVec;
 use pm_frame::{pec, pec_after};

@@ -1,7 +1,7 @@
 //! PAGE as a trace shows it, address by address.
 ghost use Rattle.std.specs.Prelude.{◌≡◌};
-ghost use Rattle.pm_trace.specs.Pages.{behind, contradicted, is_forbidden, on_page, output_of, phase_of, restarted, unsure, use_of};
-ghost use Rattle.pm_trace.specs.Pages.{accepted_use as spec_accepted_use, is_of_device as spec_is_of_device, is_silent as spec_is_silent, other_use as spec_other_use, plain_use as spec_plain_use, told_use as spec_told_use, unclear_use as spec_unclear_use};
+ghost use Rattle.pm_trace.specs.Pages.{behind, contradicted, is_forbidden, on_page, output_by_use, phase_of, place_restarted, unsure, use_of};
+ghost use Rattle.pm_trace.specs.Pages.{accepted_use as spec_accepted_use, is_of_device as spec_is_of_device, says_no_page as spec_is_silent, other_use as spec_other_use, plain_use as spec_plain_use, told_use as spec_told_use, unclear_use as spec_unclear_use};
 ghost use Rattle.pm_trace.specs.Pages.{is_apart as spec_is_apart, kept_since as spec_kept_since, line_since as spec_line_since, written_else as spec_written_else};
 ghost use Rattle.pm_trace.specs.ShownLines.{judged_in};
 
@@ -77,7 +77,7 @@ pub struct Place {
 impl Place {
     /// The output that a packet reaches which acts on an output and names none, if it is known.
     pub fn output(&self, used: PageUse) -> Option<u8>
-        ensures { result ≡ output_of self.now used }
+        ensures { result ≡ output_by_use self.now used }
     {
         match (used, self.page) {
             (PageUse::OfOutput | PageUse::SetsPhase(_), Some(said)) => Some(said.page),
@@ -176,7 +176,7 @@ impl Place {
 
     // What is known after a sign of a restart, or RESTORE.
     fn restarted(self) -> Place
-        ensures { result ≡ restarted self }
+        ensures { result ≡ place_restarted self }
     {
         Place {
             page: None,
@@ -205,8 +205,9 @@ impl Model for Pages {
 }
 
 impl Pages {
-    ghost use Rattle.std.specs.Prelude.{OnOk};
-    ghost use Rattle.pm_trace.specs.Pages.{lost_in, no_pages, pages_by, pages_shown, place_in, place_of};
+    ghost use Rattle.indexmap.specs.IndexMap.{insert_entry};
+    ghost use Rattle.std.specs.Prelude.{OnOk, nat_eq};
+    ghost use Rattle.pm_trace.specs.Pages.{lost_in, no_pages, pages_by, pages_shown, place_in, page_place_of};
 
     /// Nothing is known yet. Takes no memory.
     pub fn new(alloc: Global) -> Pages
@@ -230,18 +231,18 @@ impl Pages {
     pub fn learn_shown(&mut self, line: u64, addr: u8, used: PageUse) -> Result<(), AllocError>
         ensures { OnOk result (self.new ≡ pages_shown line addr used self.old) }
     {
-        let place = self.kept(addr);
-        self.learn(line, Some(addr), place, used)
+        let place = *self.kept(addr);
+        self.learn(line, Some(addr), &place, used)
     }
 
     // What is kept of an address.
     #[inline(always)]
-    fn kept(&self, addr: u8) -> Place
-        ensures { result ≡ place_of self.now addr }
+    fn kept(&self, addr: u8) -> &Place
+        ensures { result.now ≡ page_place_of self.now addr }
     {
-        match self.places.get(&addr).copied() {
+        match self.places.get(&addr) {
             Some(place) => place,
-            None => NOWHERE,
+            None => &NOWHERE,
         }
     }
 
@@ -275,18 +276,33 @@ impl Pages {
         &mut self,
         line: u64,
         addr: Option<u8>,
-        place: Place,
+        place: &Place,
         used: PageUse,
     ) -> Result<(), AllocError>
-        ensures { OnOk result (self.new ≡ pages_by line addr place used self.old) }
+        ensures { OnOk result (self.new ≡ pages_by line addr place.now used self.old) }
     {
         let Some(addr) = addr else {
             return Ok(());
         };
-        if used.is_silent() && place.time.is_none() {
+        if !used.is_silent() {
+            return self.set(addr, &place.behind(line, used));
+        }
+        if place.time.is_some() {
+            return self.set(addr, place);
+        }
+        Ok(())
+    }
+
+    // Takes what is known of an address: of one that isn't new in its place, which is quicker.
+    #[tactic(auto, using(crate::proofs::ValueLemmas::set_known))]
+    fn set(&mut self, addr: u8, place: &Place) -> Result<(), AllocError>
+        ensures { OnOk result (self.new ≡ record self.old { places = insert_entry nat_eq self.old.places addr place.now }) }
+    {
+        if let Some(kept) = self.places.get_mut(&addr) {
+            *kept = *place;
             return Ok(());
         }
-        self.places.insert(addr, place.behind(line, used))?;
+        self.places.insert(addr, *place)?;
         Ok(())
     }
 }

@@ -1,6 +1,8 @@
 //! The text of a line that is shown.
-ghost use Rattle.std.specs.Prelude.{◌≡◌, ◌++◌, [], OnOk, string_bytes, option_map, unwrap_or, decimal, codes};
+ghost use Rattle.std.specs.Prelude.{◌≡◌, ◌++◌, [], ℕ, List, Option, None, IfSome, OnOk, string_bytes, option_map, unwrap_or, decimal, codes};
 ghost use Rattle.std.specs.Fmt.{signed_decimal};
+ghost use Rattle.pm_frame.specs.declared.message.Message.{Message};
+ghost use Rattle.pm_lines.specs.Numbers.{hex_number};
 ghost use Rattle.pm_frame.specs.FaultWords.{frame_fault_text, place_text};
 ghost use Rattle.pm_trace.specs.ShownLines.{judged_in};
 ghost use Rattle.pm_trace.specs.TraceText.{told_text, judged_text, address_text, message_text};
@@ -86,11 +88,24 @@ pub fn push_packet(
     ensures { OnOk result (string_bytes text.new ≡ string_bytes text.old
         ++ (codes " " ++ message_text view.now (option_map (λ bytes. bytes.now) answer.entry))) }
 {
+    match coefficients_asked(view) {
+        Some((code, side)) => push_coefficients(text, code, side, answered(answer)),
+        None => push_plain(text, view, answer),
+    }
+}
+
+// The code and the side that coefficients are asked of, if they are.
+#[tactic(auto, using(crate::proofs::ValueLemmas::other_code))]
+fn coefficients_asked(view: &FrameView<'_>) -> Option<(u8, u8)>
+    ensures some { IfSome result (λ asked. view.now ≡ Message.ReadCoefficients asked.0 asked.1) }
+    ensures none { result ≡ None → (answer : Option (List ℕ)) → message_text view.now answer ≡ plain_text view.now answer }
+{
+    if Code(view.code()) != Code::COEFFICIENTS {
+        return None;
+    }
     match view.message() {
-        Message::ReadCoefficients { code, side } => {
-            push_coefficients(text, code, side, answered(answer))
-        }
-        _ => push_plain(text, view, answer),
+        Message::ReadCoefficients { code, side } => Some((code, side)),
+        _ => None,
     }
 }
 
@@ -109,7 +124,7 @@ fn push_plain(
     match answer {
         Some(answer) => {
             text.push_str(" read ")?;
-            push_hex_number(text, answer)
+            push_payload(text, answer)
         }
         None => push_written(text, view.payload()),
     }
@@ -149,7 +164,21 @@ fn push_written(text: &mut String, payload: &[u8]) -> Result<(), AllocError>
         return text.push_str(" send");
     }
     text.push_str(" write ")?;
-    push_hex_number(text, payload)
+    push_payload(text, payload)
+}
+
+// A payload as a number.
+#[tactic(auto, using(pm_lines::specs::Lemmas::Joins::joins))]
+fn push_payload(text: &mut String, bytes: &[u8]) -> Result<(), AllocError>
+    ensures { OnOk result (string_bytes text.new ≡ string_bytes text.old ++ hex_number bytes.now) }
+{
+    match bytes {
+        [low, high] => {
+            push_hex(text, *high)?;
+            push_hex(text, *low)
+        }
+        _ => push_hex_number(text, bytes),
+    }
 }
 
 /// The bytes of an answer, none if there is no answer.

@@ -115,7 +115,7 @@ impl Tally {
 }
 
 // Counts one more line of a code at this place, if it stands there.
-#[tactic(auto, using(crate::specs::Lemmas::Counts::at_place, crate::specs::Lemmas::Counts::place_bound))]
+#[tactic(auto, using(crate::specs::Lemmas::Counts::count_at_place, crate::specs::Lemmas::Counts::place_bound))]
 fn count_at(codes: &mut IndexMap<u8, u64>, place: usize, code: u8) -> bool
     requires { total_of codes.old.entries + 1 < 2 ^ 64 }
     ensures counted { result ≡ true → codes.new.entries ≡ one_more codes.old.entries code }

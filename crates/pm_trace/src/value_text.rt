@@ -1,7 +1,7 @@
 //! The texts of values.
 ghost use Rattle.std.specs.Prelude.{◌≡◌, ◌++◌, ◌*◌, ◌/◌, ◌%◌, ◌^◌, ◌<◌, ◌≤ℤ◌, ◌<ℤ◌, pos, neg_ℤ, unsigned_abs, OnOk, map, string_bytes};
 ghost use Rattle.pm_trace.specs.Statuses.{names_from};
-ghost use Rattle.pm_trace.specs.ValueText.{capability_text, control_text, decimal_of, delay_text, flags_text, known_text, minus as minus_text, mode_text, on_off_text, operation_text, part_text, pec_text, places, point_text, polarity_text, protection_text, relative_text, revision_text, size_text, speed_text, switch_text, unit_text, value_text};
+ghost use Rattle.pm_trace.specs.ValueText.{capability_text, control_text, millionths_text, delay_text, flags_text, known_text, minus as minus_text, mode_text, on_off_text, operation_text, part_text, pec_text, digits_after_point, point_text, polarity_text, protection_text, relative_text, revision_text, size_text, speed_text, switch_text, unit_text, value_text};
 ghost use Rattle.pm_trace.specs.Values.{millionths as spec_millionths};
 
 use crate::decimals::push_millionths;

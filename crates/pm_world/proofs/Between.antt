@@ -17,7 +17,7 @@ use Rattle.pm_device.specs.Effect as device
 use Rattle.pm_host.specs.Refusals.{is_busy}
 use Rattle.pm_host.specs.Transcript as host
 use Rattle.pm_host.specs.declared.command.Command.TheVariants.{ClearFaults, StoreUserAll, RestoreUserAll}
-use Rattle.pm_rail.specs.Laws.{HasDens, would_be_cut}
+use Rattle.pm_rail.specs.Laws.{ScaleHasDens, would_be_cut}
 use Rattle.pm_rail.specs.Lemmas.Limits.{over-is, under-is, within}
 use Rattle.pm_rail.specs.Plan.{commands_by, goal_of, is_cut_by}
 use Rattle.pm_rail.specs.Registers.{Held, Wants}
@@ -109,7 +109,7 @@ valued : (value : Scale) {a b c : ℕ} → (a ≡ b) ⊎ (a ≡ c) → (value a 
 valued value (inl e) = inl (ap value e)
 valued value (inr e) = inr (ap value e)
 
-uncut-between : (value : Scale) (start goal mixed : Held) (byte : ℕ) → HasDens value → AreMixed start goal mixed →
+uncut-between : (value : Scale) (start goal mixed : Held) (byte : ℕ) → ScaleHasDens value → AreMixed start goal mixed →
     would_be_cut value start byte ≡ false → would_be_cut value goal byte ≡ false →
     LiesAmong (would_command value start byte ∷ would_command value goal byte ∷ []) (would_command value mixed byte)
 uncut-between value start goal mixed byte dens are one other =
@@ -268,7 +268,7 @@ module _ (p : Put) where
   either w x y (inl is) low high = subst (λ (r : Ratio). Among (limited r x y)) (sym is) (start-one x y low high)
   either w x y (inr is) low high = subst (λ (r : Ratio). Among (limited r x y)) (sym is) (wanted-one x y low high)
 
-ordered-between : (value : Scale) (start goal mixed : Held) (byte : ℕ) → HasDens value → AreMixed start goal mixed →
+ordered-between : (value : Scale) (start goal mixed : Held) (byte : ℕ) → ScaleHasDens value → AreMixed start goal mixed →
     is_above (value (start VoutMin)) (value (start VoutMax)) ≡ false → would_be_cut value goal byte ≡ false →
     LiesAmong (would_command value start byte ∷ would_command value goal byte ∷ start_let_go value start goal byte ∷ [])
     (would_command value mixed byte)

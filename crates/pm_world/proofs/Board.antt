@@ -33,7 +33,7 @@ use Rattle.pm_device.specs.{Start.IsSound, declared.config.Config.Config, declar
 use Rattle.pm_device.specs.{declared.converter.Heard.TheVariants.Answer}
 use Rattle.pm_device.specs.Effect as device
 use Rattle.pm_device.specs.Held.{CmlFaults, Held}
-use Rattle.pm_device.specs.History.{after, is_for_other, next as device_next, now as device_now}
+use Rattle.pm_device.specs.History.{after_outcome, is_for_other, device_next, device_now}
 use Rattle.pm_device.specs.Laws.{FramesForOthersAreSilent, RequestsLatchAtMost}
 use Rattle.pm_device.specs.Reply.{payload_for, plain_register, register_bytes, register_word, reply_of, reply_to}
 use Rattle.pm_device.specs.Verdict.{answers_coefficients, fault_verdict, read_verdict, unless_faulty, verdict_of, write_verdict}
@@ -46,7 +46,7 @@ use Rattle.pm_host.specs.Transcript as host
 use Rattle.pm_host.specs.declared.command.Command.TheVariants.{ClearFaults, RestoreUserAll, StoreUserAll}
 use Rattle.pm_host.specs.declared.question.Question.TheVariants.{Coefficients, Mode, Word}
 use Rattle.pm_host.specs.declared.stage.Stage.TheVariants.{Asks, Reads, Sends, Writes}
-use Rattle.pm_world.specs.{Job.refusal_of, Laws.LivesAreFollowed, Setup.setup_of, Uncertainty.IsLegal, declared.event.Arrival.Arrival}
+use Rattle.pm_world.specs.{Job.refusal_of_event, Laws.LivesAreFollowed, Setup.setup_of, Uncertainty.IsLegal, declared.event.Arrival.Arrival}
 use Rattle.pm_world.specs.{declared.event.Back.Back, declared.event.Event.Event}
 use Rattle.pm_world.specs.Legal.{frame_of, is_legal_hearing, answer_in, back_bytes, heard_bytes, heard_ending, is_heard_whole}
 use Rattle.pm_world.specs.Legal.{is_legal_return, is_restart, whole_ending}
@@ -56,7 +56,7 @@ use Rattle.pm_world.specs.Neighbours.{AreLegalFor, Board, Happening, gives_retur
 use Rattle.pm_world.specs.Neighbours.{overhearing, passes_by}
 use Rattle.pm_world.specs.Ones.{is_good_protection, ones_behind}
 use Rattle.pm_world.specs.SharedCodes.{read_codes, shares}
-use Rattle.pm_world.specs.State.{Share, State, answer_to, asked, counted, device_after, event_cause, exchange_cause, exchanged}
+use Rattle.pm_world.specs.State.{Share, State, answer_to, asked, event_counted, device_after, event_cause, exchange_cause, exchanged}
 use Rattle.pm_world.specs.State.{hearing_cause, next, refused, return_cause, rule, share_beside, share_of, shared, cause_beside, tells}
 use Rattle.pm_world.specs.declared.cause.Cause.TheVariants.{NotBetrayed, WrongKind}
 use Rattle.pm_world.specs.declared.event.Arrival.TheVariants as arrives
@@ -209,8 +209,8 @@ alike-by : (a b c : Held) → AreAlike a b → AreAlike b c → AreAlike a c
 alike-by a b c first second = first ∙ ap (λ (h : Held). record h { faults = a.faults }) second
 
 -- A converter after a faulty frame is like itself before it.
-fault-alike : (held : Held) (fault : FrameFault) → AreAlike (after held (device.Heard (fault_verdict fault))) held
-unfolding after
+fault-alike : (held : Held) (fault : FrameFault) → AreAlike (after_outcome held (device.Heard (fault_verdict fault))) held
+unfolding after_outcome
 fault-alike held frame.NotOurs = refl
 fault-alike held (frame.Short place) = refl
 fault-alike held (frame.Long place) = refl
@@ -226,7 +226,8 @@ faulty-alike : (held : Held) (bytes : List ℕ) → write_fault held.config.addr
 unfolding device_next verdict_of
 faulty-alike held bytes wrong = go (write_fault held.config.addr bytes) refl where
   go : (fault : Option FrameFault) → write_fault held.config.addr bytes ≡ fault
-      → AreAlike (after held (device.Heard (unless_faulty fault (write_verdict held.config held.words held.page (message_in bytes))))) held
+      → AreAlike
+      (after_outcome held (device.Heard (unless_faulty fault (write_verdict held.config held.words held.page (message_in bytes))))) held
   go None e = absurd (wrong e)
   go (Some fault) e = fault-alike held fault
 
@@ -543,7 +544,7 @@ beside-same table t faults (Reading output code word) gives = refl
 
 cause-same : RegistersAreInTheTable → (t : State) (faults : CmlFaults) (event : Event) → gives_return event ≡ true
     → event_cause (with_faults t faults) event ≡ event_cause t event
-cause-same table t faults event gives = ap (option_or (refused (refusal_of t.host event))) (beside-same table t faults event gives)
+cause-same table t faults event gives = ap (option_or (refused (refusal_of_event t.host event))) (beside-same table t faults event gives)
 
 -- An exchange that is legal tells both ends the same, whatever is latched.
 exchanged-same : RegistersAreInTheTable
@@ -584,12 +585,12 @@ share-same : RegistersAreInTheTable
     → share_of (with_faults t faults) event ≡ share_of t event
 share-same table t faults event gives free =
     ap (option_map_or (λ job. tells (host.Accepted job)) (asked t event))
-    (tells-same table t faults event gives (or-none (refused (refusal_of t.host event)) (cause_beside t event) free).1)
+    (tells-same table t faults event gives (or-none (refused (refusal_of_event t.host event)) (cause_beside t event) free).1)
 
 -- What the converter makes of what it hears doesn't depend on what is latched, but for latched bits of STATUS_CML.
 device-same : (held : Held) (faults : CmlFaults) (heard : Option device.Event)
     → AreAlike (device_after (record held { faults = faults }) heard) (device_after held heard)
-unfolding device_next after
+unfolding device_next after_outcome
 device-same held faults None = refl
 device-same held faults (Some event) = refl
 
@@ -601,9 +602,10 @@ unfolding next
 next-same table t faults event gives free =
     let share : Share = share_of t event in
     let same = share-same table t faults event gives free in
-    ap (λ (x : Share). counted (shared (with_faults t faults) x)) same
-    ∙ ap (λ (d : Held). record (counted (shared t share)) { device = d }) (device-same t.device faults share.heard)
-    ∙ ap (λ (x : Share). with_faults (counted (shared t share)) (counted (shared (with_faults t faults) x)).device.faults) (sym same)
+    ap (λ (x : Share). event_counted (shared (with_faults t faults) x)) same
+    ∙ ap (λ (d : Held). record (event_counted (shared t share)) { device = d }) (device-same t.device faults share.heard)
+    ∙ ap (λ (x : Share). with_faults (event_counted (shared t share)) (event_counted (shared (with_faults t faults) x)).device.faults)
+    (sym same)
 
 -- ---- a pair on the board
 

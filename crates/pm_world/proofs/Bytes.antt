@@ -31,11 +31,11 @@ use Rattle.pm_model.specs.Settings.{word_at}
 use Rattle.pm_device.specs.{Start.IsSound, declared.config.Config.Config, declared.converter.Ending.Ending, declared.converter.Heard.Heard}
 use Rattle.pm_device.specs.Effect as device
 use Rattle.pm_device.specs.Held.{Held, reading_at, Measured, device_readings, is_reading, no_readings, output_readings, place_among}
-use Rattle.pm_device.specs.Held.{with_reading, words_at}
-use Rattle.pm_device.specs.History.{now as device_now, readings_in}
+use Rattle.pm_device.specs.Held.{with_reading, reading_words_at}
+use Rattle.pm_device.specs.History.{device_now, readings_in}
 use Rattle.pm_device.specs.Laws.{ReadsAreAnswered, RepliesFollowEndings}
 use Rattle.pm_device.specs.Reply.{payload_for, reply_of, answer_bytes, plain_register, register_bytes, register_word, reply_to}
-use Rattle.pm_device.specs.Status.{marked, status_word}
+use Rattle.pm_device.specs.Status.{bit_if_set, status_word_of}
 use Rattle.pm_device.specs.Verdict.{answers_coefficients, is_answered, read_verdict, unless_faulty, verdict_of}
 use Rattle.pm_device.specs.declared.converter.Ending.TheVariants.{Restart, Stop}
 use Rattle.pm_device.specs.declared.converter.Heard.TheVariants.{Answer, Silent, Taken, Refused}
@@ -212,7 +212,7 @@ either true word other one two = one
 either false word other one two = two
 
 -- a bit that may be set
-marked-most : (bit : ℕ) (b : Bool) → marked bit b ≤ bit
+marked-most : (bit : ℕ) (b : Bool) → bit_if_set bit b ≤ bit
 marked-most bit true = omega arith
 marked-most bit false = omega arith
 
@@ -221,7 +221,7 @@ bits-short : (a b c d e : ℕ) → a ≤ 0x40 → b ≤ 0x02 → c ≤ 0x01 → 
 bits-short a b c d e ha hb hc hd he = omega arith
 
 -- STATUS_WORD has two bytes, whatever a converter holds
-status-short : (held : Held) (output : ℕ) → status_word held output < 2 ^ 16
+status-short : (held : Held) (output : ℕ) → status_word_of held output < 2 ^ 16
 status-short held output = bits-short _ _ _ _ _ (marked-most 0x40 _) (marked-most 0x02 _) (marked-most 0x01 _) (marked-most 0x8000 _)
     (marked-most 0x0800 _)
 
@@ -504,7 +504,7 @@ WordsShort words = (place : ℕ) → get_or words place 0 < 2 ^ 16
 -- each reading is a word of two bytes
 record AreShort (readings : Measured) : Type 0 where
   device : WordsShort readings.device
-  outputs : (place : ℕ) → WordsShort (words_at readings place)
+  outputs : (place : ℕ) → WordsShort (reading_words_at readings place)
 
 -- as they begin
 zeros-short : (n : ℕ) → WordsShort (replicate n 0)
@@ -547,12 +547,12 @@ with-short readings output code word are short =
       go : (a b : Option ℕ) →
           AreShort (option_map_or (λ place. record readings { device = slice_set readings.device place word }) a
           (option_map_or (λ place. record readings
-          { outputs = slice_set readings.outputs place (slice_set (words_at readings place) output word) }) b readings))
+          { outputs = slice_set readings.outputs place (slice_set (reading_words_at readings place) output word) }) b readings))
       go (Some place) b = record { device = set-short readings.device place word are.device short; outputs = are.outputs }
       go None (Some place) = record {
         device = are.device;
         outputs = row-short readings.outputs place _ are.outputs
-            (set-short (words_at readings place) output word (are.outputs place) short);
+            (set-short (reading_words_at readings place) output word (are.outputs place) short);
       }
       go None None = are
 
@@ -580,7 +580,7 @@ reading-short : (readings : Measured) (output code : ℕ) → AreShort readings 
 reading-short readings output code are = go (place_among device_readings code) (place_among output_readings code) where
   go : (a b : Option ℕ) →
       option_map_or (λ place. slice_index readings.device place) a
-      (option_map_or (λ place. slice_index (words_at readings place) output) b 0) < 2 ^ 16
+      (option_map_or (λ place. slice_index (reading_words_at readings place) output) b 0) < 2 ^ 16
   go (Some place) b = are.device place
   go None (Some place) = are.outputs place output
   go None None = lit< tt

@@ -39,7 +39,7 @@ use Rattle.pm_world.specs.Life.{life, now, state_of}
 use Rattle.pm_world.specs.Moments.{Beyond, same-commands, split-at}
 use Rattle.pm_world.specs.Moves.{MovesBy, came_back, ordered as moves_ordered, restored}
 use Rattle.pm_world.specs.Plans.{Follows, PlansHoldInLives, held_at, IsReadSince, MayAsk}
-use Rattle.pm_world.specs.Possible.{has_read, restarts_host}
+use Rattle.pm_world.specs.Possible.{host_has_read, restarts_host}
 use Rattle.pm_world.specs.Retelling.{open_pending, pending_of}
 use Rattle.pm_world.specs.State.{asked, share_of, State}
 use Rattle.pm_world.specs.Surveys.{MissingUnread, SurveysHoldInLives, AreRead}
@@ -140,10 +140,10 @@ reads-none setup entries cell other (Some host.Restarted) = refl
 -- A cell that it doesn't read stays unread.
 pub unread-kept : Below → (config : Config) (passes : ℕ) (cell : Cell) (before : List Event) (event : Event) →
     ((told : List host.Entry) (c : Cell) → read_by (job_in (now config passes before).host) told ≡ Some c → same_cell c cell ≡ false) →
-    has_read config passes cell before ≡ false → has_read config passes cell (event ∷ before) ≡ false
-unfolding has_read
+    host_has_read config passes cell before ≡ false → host_has_read config passes cell (event ∷ before) ≡ false
+unfolding host_has_read
 unread-kept laws config passes cell before event other was =
-    go (restarts_host event) (reads_cell config passes cell before event) (has_read config passes cell before)
+    go (restarts_host event) (reads_cell config passes cell before event) (host_has_read config passes cell before)
     (reads-none (setup_of config passes) (life config passes before).entries cell
     (λ c e. other (host.told_since (life config passes before).entries) c
     (ap (λ (j : Option host.Job). read_by j (host.told_since (life config passes before).entries)) (opened-is laws config passes before) ∙ e))

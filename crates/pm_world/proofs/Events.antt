@@ -38,7 +38,7 @@ use Rattle.pm_model.specs.Settings.{word_at, with_word, Words, AreWords}
 use Rattle.pm_device.specs.{Held.Held, Start.IsSound, Verdict.payload_word, declared.config.Config.Config, declared.converter.Ending.Ending}
 use Rattle.pm_device.specs.Effect as device
 use Rattle.pm_device.specs.Effect.{Hearing, Kept, kept_in, kept_after, words_after}
-use Rattle.pm_device.specs.History.{now as device_now, next as device_next}
+use Rattle.pm_device.specs.History.{device_now, device_next}
 use Rattle.pm_device.specs.Reply.{reply_of, register_bytes}
 use Rattle.pm_device.specs.declared.converter.Ending.TheVariants.{Stop, Restart}
 use Rattle.pm_host.specs.{Cells.table, Known.known_now, Marks.marks, Sound.IsSound as IsSoundHost, Standing.standing_of}
@@ -47,11 +47,11 @@ use Rattle.pm_host.specs.{declared.job.JobEnd.JobEnd, declared.knowledge.Standin
 use Rattle.pm_host.specs.Answers.{good_payload, good_word, word_in}
 use Rattle.pm_host.specs.Frames.{writes_output, writes_protect, reads_output, reads_protect}
 use Rattle.pm_host.specs.Jobs.{accepted_job, begin_fault, Begins}
-use Rattle.pm_host.specs.Lemmas.{accepted-free, writes_cell, reads_cell}
+use Rattle.pm_host.specs.Lemmas.{accepted-free, writes_cell, cell_read_is_request}
 use Rattle.pm_host.specs.Messages.{cell_write, register_payload, cell_read}
-use Rattle.pm_host.specs.Now.{now as host_now, AreTold}
+use Rattle.pm_host.specs.Now.{host_now, AreTold}
 use Rattle.pm_host.specs.Refusals.{job_fault, micro_fault, micro_word, voltage_fault, IsSetup, may_come, sends_write, cell_fault}
-use Rattle.pm_host.specs.Summary.{Summary, format_at, next as host_next, step_of, sending_in, step_by, stage_message, finished, idle}
+use Rattle.pm_host.specs.Summary.{Summary, format_at, host_next, step_of, sending_in, step_by, stage_message, finished, idle}
 use Rattle.pm_host.specs.Summary.{possible_at}
 use Rattle.pm_host.specs.Transcript as host
 use Rattle.pm_host.specs.Transcript.{Entry, Accepted, Job as TranscriptJob, Order, Got}
@@ -63,17 +63,18 @@ use Rattle.pm_world.specs.{declared.event.Arrival.TheVariants.Whole, declared.ev
 use Rattle.pm_world.specs.{declared.way.Way.TheVariants.Off}
 use Rattle.pm_world.specs.GoodBus.{IsRead, IsWritten}
 use Rattle.pm_world.specs.Honest.{is_whole, honest, sent_by}
-use Rattle.pm_world.specs.Job.{asked_by, refusal_of}
+use Rattle.pm_world.specs.Job.{asked_by, refusal_of_event}
 use Rattle.pm_world.specs.Laws.{LivesAreFollowed, OpenListsAreFollowed}
 use Rattle.pm_world.specs.Legal.{frame_of, is_legal_hearing, heard_bytes, ending_of, heard_ending, is_restart, is_heard_whole}
 use Rattle.pm_world.specs.Legal.{is_legal_return, answer_in, back_bytes}
 use Rattle.pm_world.specs.Life.{Life, state_of, lived, life, now, AreTaken, after_all, AreTakenFrom, found_by, taken_events}
 pub use Rattle.pm_world.specs.Lived.{IsLived}
 use Rattle.pm_world.specs.OpenLists.{are_open, follows_open, stays_open}
-use Rattle.pm_world.specs.Setup.{setup_of, start}
-use Rattle.pm_world.specs.State.{HasWord, State, asked, counted, event_cause, exchange_cause, next, refused, rule, share_beside, share_of}
+use Rattle.pm_world.specs.Setup.{setup_of, world_start}
+use Rattle.pm_world.specs.State.{HasWord, State, asked, event_counted, event_cause, exchange_cause, next, refused, rule, share_beside}
+use Rattle.pm_world.specs.State.{share_of}
 use Rattle.pm_world.specs.State.{shared, tells, cause_beside, cause_of, event_limit, IsTaken, Acts, end_by, Share, delivered, exchanged}
-use Rattle.pm_world.specs.State.{hears, nothing, end_after, host_after, device_after, finish_cause, delivery_cause, hearing, answer_to}
+use Rattle.pm_world.specs.State.{hears, no_share, end_after, host_after, device_after, finish_cause, delivery_cause, hearing, answer_to}
 use Rattle.pm_world.specs.Uncertainty.{AreLegal, since_restart}
 use Rattle.pm_world.specs.Way.{WasSent, WasUndisturbed, WaysAreFollowed, way_after, way_of}
 use Rattle.pm_world.specs.declared.cause.Cause.TheVariants.{Full, WrongKind, NotBetrayed}
@@ -103,7 +104,7 @@ fault-none s (Some asked) accepted is h = accepted-free s asked accepted is h
 pub job-free : (s : State) (event : Event) (job : host.Job) → asked s event ≡ Some job → event_cause s event ≡ None →
     job_fault s.host job ≡ None
 job-free s event job is h = fault-none s.host (asked_by event) job is
-    (refused-none _ (or-none (refused (refusal_of s.host event)) (cause_beside s event) h).0)
+    (refused-none _ (or-none (refused (refusal_of_event s.host event)) (cause_beside s event) h).0)
 
 -- an event that asks for a job has no other cause than the host's refusal
 pub asked-beside : (s : State) (event : Event) (job : host.Job) → asked s event ≡ Some job → cause_beside s event ≡ None
@@ -127,15 +128,15 @@ asked-share s event job is = ap (λ o. option_map_or (λ j. tells (host.Accepted
 
 -- an event that asks for a job does nothing else
 pub asked-next : (s : State) (event : Event) (job : host.Job) → asked s event ≡ Some job →
-    next s event ≡ counted (shared s (tells (host.Accepted job)))
+    next s event ≡ event_counted (shared s (tells (host.Accepted job)))
 unfolding next
-asked-next s event job is = ap (λ share. counted (shared s share)) (asked-share s event job is)
+asked-next s event job is = ap (λ share. event_counted (shared s share)) (asked-share s event job is)
 
 -- an event that asks for none tells the ends what it does
-pub beside-next : (s : State) (event : Event) → asked s event ≡ None → next s event ≡ counted (shared s (share_beside s event))
+pub beside-next : (s : State) (event : Event) → asked s event ≡ None → next s event ≡ event_counted (shared s (share_beside s event))
 unfolding next
 beside-next s event is =
-    ap (λ o. counted (shared s (option_map_or (λ j. tells (host.Accepted j)) o (share_beside s event)))) is
+    ap (λ o. event_counted (shared s (option_map_or (λ j. tells (host.Accepted j)) o (share_beside s event)))) is
 
 -- it is no restart of the converter
 pub asked-restarts : (s : State) (event : Event) (job : host.Job) → asked s event ≡ Some job → restarts_converter event ≡ false
@@ -386,7 +387,7 @@ pub data IsShare (s : State) : Event → Share → Type 0 where
   restarts_device : IsShare s RestartDevice (hears device.Restarted)
   restarts_host : IsShare s RestartHost (tells host.Restarted)
   measures : (output : ℕ) (code : Code) (word : ℕ) → IsShare s (Reading output code word) (hears (device.Reading output code.0 word))
-  tells_none : (event : Event) → IsShare s event nothing
+  tells_none : (event : Event) → IsShare s event no_share
 
 -- each event is one of these
 pub share-is : (s : State) (event : Event) → IsShare s event (share_of s event)
@@ -488,28 +489,28 @@ end_by-step (Some end) = refl
 -- how the last job stands after it
 end-part : Below → (setup : host.Setup) (entries : List host.Entry) (told : Option host.Entry) → IsSetup setup → AreTold setup entries →
     MayBeTold (host_now setup entries) told →
-    host.end_of setup (option_to_list told ++ entries) ≡ end_after (host_now setup entries) (host.end_of setup entries) told
+    host.last_job_end setup (option_to_list told ++ entries) ≡ end_after (host_now setup entries) (host.last_job_end setup entries) told
 end-part laws setup entries None good before may = refl
 end-part laws setup entries (Some entry) good before may =
     sym (ap end_by (laws.transcripts_are_followed.step setup entries entry good (may, before))
-    ∙ end_by-step (host.end_of setup (entry ∷ entries)))
+    ∙ end_by-step (host.last_job_end setup (entry ∷ entries)))
 
 -- the world after one more share
 lived-state : Below → {config : Config} {passes : ℕ} (n : ℕ) (l : Life) (share : Share) → IsSound config →
     IsSetup (setup_of config passes) →
     AreTold (setup_of config passes) l.entries →
     MayBeTold (host_now (setup_of config passes) l.entries) share.told →
-    state_of config passes (suc n) (lived l share) ≡ counted (shared (state_of config passes n l) share)
+    state_of config passes (suc n) (lived l share) ≡ event_counted (shared (state_of config passes n l) share)
 unfolding state_of
 lived-state laws {config = config} {passes = passes} n l share sound good before may =
     ap (λ (d : Held). state d (host_now setup (option_to_list share.told ++ l.entries))
-    (host.end_of setup (option_to_list share.told ++ l.entries)) (suc n)) (device-part laws config l.past share.heard sound)
+    (host.last_job_end setup (option_to_list share.told ++ l.entries)) (suc n)) (device-part laws config l.past share.heard sound)
     ∙ (ap (λ (h : Summary). state (device_after (device_now config l.past) share.heard) h
-    (host.end_of setup (option_to_list share.told ++ l.entries)) (suc n)) (host-part laws setup l.entries share.told good before may)
+    (host.last_job_end setup (option_to_list share.told ++ l.entries)) (suc n)) (host-part laws setup l.entries share.told good before may)
     ∙ (ap (λ (e : Option JobEnd). state (device_after (device_now config l.past) share.heard)
     (host_after (host_now setup l.entries) share.told) e (suc n)) (end-part laws setup l.entries share.told good before may)
     ∙ ap (state (device_after (device_now config l.past) share.heard) (host_after (host_now setup l.entries) share.told)
-    (end_after (host_now setup l.entries) (host.end_of setup l.entries) share.told)) (sym (add-one n))))
+    (end_after (host_now setup l.entries) (host.last_job_end setup l.entries) share.told)) (sym (add-one n))))
   where
     setup : host.Setup
     setup = setup_of config passes
@@ -533,16 +534,16 @@ now-next laws config passes events event lived =
     (life-told config passes events lived.legal.1) (may-be-told before_it event lived.legal.0.free)
 
 -- no event
-pub now-nil : Below → (config : Config) (passes : ℕ) → IsSetup (setup_of config passes) → now config passes [] ≡ start config passes
-unfolding life now start state_of host.end_of
+pub now-nil : Below → (config : Config) (passes : ℕ) → IsSetup (setup_of config passes) → now config passes [] ≡ world_start config passes
+unfolding life now world_start state_of host.last_job_end
 now-nil laws config passes good =
     ap₂ (λ (d : Held) (h : Summary). state d h None 0) (laws.pasts_are_followed.none config)
     (laws.transcripts_are_followed.none (setup_of config passes) good)
 
 -- events that are taken from the start are those of a life
 pub from-start : Below → (config : Config) (passes : ℕ) (events : List Event) → IsSound config → IsSetup (setup_of config passes) →
-    AreTakenFrom (start config passes) events →
-    AreTaken config passes events × (now config passes events ≡ after_all (start config passes) events)
+    AreTakenFrom (world_start config passes) events →
+    AreTaken config passes events × (now config passes events ≡ after_all (world_start config passes) events)
 from-start laws config passes [] sound good all = (tt, now-nil laws config passes good)
 from-start laws config passes (event ∷ before) sound good (taken, all) =
     let so_far = from-start laws config passes before sound good all in
@@ -1040,7 +1041,7 @@ whole-read config passes request before reads =
 -- an exchange that comes whole reads a cell
 pub whole-cell : (config : Config) (passes : ℕ) (cell : Cell) (before : List Event) →
     IsRead config passes (cell_read cell) before (Exchange Whole back.Whole ∷ before)
-whole-cell config passes cell before = whole-read config passes (cell_read cell) before (reads_cell cell)
+whole-cell config passes cell before = whole-read config passes (cell_read cell) before (cell_read_is_request cell)
 
 -- an order that is sent
 pub whole-sent : (config : Config) (passes : ℕ) (before : List Event) (cell : Cell) (word : ℕ) →
@@ -1159,7 +1160,8 @@ taken-whole laws {config = config} {passes = passes} {cell = cell} {word = word}
     let count = now-taken config passes (Finish acked ∷ events) in (
       record {
         free = free t (Exchange Whole back.Whole) (omega arith)
-            (ap (exchange_cause t Whole back.Whole) reading ∙ exchange-free t (cell_read cell) (reads_cell cell) (read-restart cell));
+            (ap (exchange_cause t Whole back.Whole) reading
+            ∙ exchange-free t (cell_read cell) (cell_read_is_request cell) (read-restart cell));
         word = tt;
       },
       (finish, has.taken),
@@ -1187,7 +1189,7 @@ pub free-word : (s : State) (event : Event) → event_cause s event ≡ None →
 free-word s (OrderMicro cell x) h =
     known-word (format_at s.host (output_of cell)) (micros x)
     (order-known s.host cell x
-    (refused-none _ (or-none (refused (refusal_of s.host (OrderMicro cell x))) (cause_beside s (OrderMicro cell x)) h).0))
+    (refused-none _ (or-none (refused (refusal_of_event s.host (OrderMicro cell x))) (cause_beside s (OrderMicro cell x)) h).0))
 free-word s event h = tt
 
 -- a world that takes an event has room
@@ -1364,24 +1366,24 @@ left_by config passes events = are_open (marks (setup_of config passes) (since_r
 
 -- a run that looks for this finds it
 pub open-found : LivesAreFollowed → EventsAreLived → OpenListsAreFollowed → (config : Config) (passes : ℕ) (events : List Event) →
-    IsSound config → IsSetup (setup_of config passes) → AreTakenFrom (start config passes) events →
-    (found_by follows_open (record { left = true }) (start config passes) events).left ≡ left_by config passes events
+    IsSound config → IsSetup (setup_of config passes) → AreTakenFrom (world_start config passes) events →
+    (found_by follows_open (record { left = true }) (world_start config passes) events).left ≡ left_by config passes events
 open-found lives lived opens config passes [] sound made all = sym (opens.none config passes)
 open-found lives lived opens config passes (event ∷ before) sound made (taken, all) =
     let from = lives.from_start config passes (event ∷ before) sound made (taken, all) in
-    let world = after_all (start config passes) (event ∷ before) in
+    let world = after_all (world_start config passes) (event ∷ before) in
     ap (λ b. stays_open b event (possible_at world.host Protect)) (open-found lives lived opens config passes before sound made all)
     ∙ (ap (λ (s : State). stays_open (left_by config passes before) event (possible_at s.host Protect)) (sym from.1)
     ∙ sym (opens.more config passes before event (lived.taken config passes (event ∷ before) sound made from.0)))
 
 -- a run that looks for an order on its way finds it
 pub way-found : LivesAreFollowed → WaysAreFollowed → (config : Config) (passes : ℕ) (events : List Event) →
-    IsSound config → IsSetup (setup_of config passes) → AreTakenFrom (start config passes) events →
-    found_by (λ way event world. way_after world event way) Off (start config passes) events ≡ way_of config passes events
+    IsSound config → IsSetup (setup_of config passes) → AreTakenFrom (world_start config passes) events →
+    found_by (λ way event world. way_after world event way) Off (world_start config passes) events ≡ way_of config passes events
 way-found lives ways config passes [] sound made all = sym (ways.none config passes)
 way-found lives ways config passes (event ∷ before) sound made (taken, all) =
     let from = lives.from_start config passes (event ∷ before) sound made (taken, all) in
-    ap (way_after (after_all (start config passes) (event ∷ before)) event) (way-found lives ways config passes before sound made all)
+    ap (way_after (after_all (world_start config passes) (event ∷ before)) event) (way-found lives ways config passes before sound made all)
     ∙ (ap (λ (s : State). way_after s event (way_of config passes before)) (sym from.1)
     ∙ sym (ways.more config passes before event))
 
@@ -1391,7 +1393,7 @@ way-found lives ways config passes (event ∷ before) sound made (taken, all) =
 is_request : (addr : ℕ) (cell : Cell) → fits_layout (cell_read cell) ≡ true →
     IsRequest addr (cell_read cell) (frame_of addr (cell_read cell))
 is_request addr cell fits =
-    record { reads = reads_cell cell; fits = fits; spelled = frame-request addr (cell_read cell) (reads_cell cell) }
+    record { reads = cell_read_is_request cell; fits = fits; spelled = frame-request addr (cell_read cell) (cell_read_is_request cell) }
 
 -- the word of a payload
 number_in : (payload : List ℕ) → word_in payload ≡ payload_word (payload_in payload)

@@ -30,7 +30,7 @@ use Rattle.pm_device.specs.{Laws.AnswersWith, declared.config.Config.Config, dec
 use Rattle.pm_device.specs.{declared.converter.Heard.Heard, declared.output_start.OutputStart.OutputStart}
 use Rattle.pm_device.specs.Held.{Held, mode_for, shape_for, shape_made, value_for}
 use Rattle.pm_device.specs.Reply.{register_bytes, reply_of, payload_for}
-use Rattle.pm_device.specs.Start.{is_direct, IsSound, has_direct, register_start, start_of, start_word}
+use Rattle.pm_device.specs.Start.{is_direct, IsSound, has_direct, register_start, start_with_words, start_word}
 use Rattle.pm_device.specs.declared.converter.Ending.TheVariants.{Stop, Restart}
 use Rattle.pm_device.specs.declared.converter.Heard.TheVariants.{Silent, Taken, Answer, Refused}
 use Rattle.pm_host.specs.{Jobs.accepted_job, Lemmas.writes_cell, Refusals.may_come, Told.is_of_frame, declared.command.Command.Command}
@@ -41,12 +41,13 @@ use Rattle.pm_host.specs.Ended.{job_in, stage_job, StepTells, EndTells}
 use Rattle.pm_host.specs.Frames.{reads_coefficients, reads_mode}
 use Rattle.pm_host.specs.Marks.{read_by, Good}
 use Rattle.pm_host.specs.Messages.{mode_read, coefficients_read, cell_read}
-use Rattle.pm_host.specs.Now.{now as host_now, job_stage, stage_of, AreTold}
+use Rattle.pm_host.specs.Now.{host_now, job_stage, stage_of, AreTold}
 use Rattle.pm_host.specs.Question.{question_message, IsQuestion}
 use Rattle.pm_host.specs.Sound.{IsStage, IsSound as IsSoundHost}
-use Rattle.pm_host.specs.Summary.{Summary, stage_message, next as host_next, step_by, format_at, Change, begins as summary_begins, finished}
-use Rattle.pm_host.specs.Summary.{answered as summary_answered, answer_taken, read_back, learned, mode_taken, asked as asks_again, another}
-use Rattle.pm_host.specs.Summary.{sends, ends, goes_on, writes, idle, marked, no_formats}
+use Rattle.pm_host.specs.Summary.{Summary, stage_message, host_next, step_by, format_at, Change, begins as summary_begins, finished}
+use Rattle.pm_host.specs.Summary.{request_answered as summary_answered, answer_taken, read_back, learned, mode_taken}
+use Rattle.pm_host.specs.Summary.{question_answered as asks_again, another}
+use Rattle.pm_host.specs.Summary.{sends, ends, goes_on_at, writes, idle, marked, no_formats}
 use Rattle.pm_host.specs.Transcript as host
 use Rattle.pm_host.specs.declared.job.JobEnd.TheVariants as job_end
 use Rattle.pm_host.specs.declared.job.JobEnd.TheVariants.{Done, Differs, Unknown, Learned}
@@ -58,9 +59,9 @@ use Rattle.pm_world.specs.Honest.{IsSpelled, FormatsAgree, OrdersNearest, Micros
 use Rattle.pm_world.specs.Legal.{frame_of, heard_bytes, heard_ending, is_restart, is_legal_return, is_heard_whole, answer_in, back_bytes}
 use Rattle.pm_world.specs.Lemmas.{entries-more, now-config}
 use Rattle.pm_world.specs.Life.{life, now, state_of}
-use Rattle.pm_world.specs.Setup.{setup_of, start}
+use Rattle.pm_world.specs.Setup.{setup_of, world_start}
 use Rattle.pm_world.specs.State.{State, hearing_cause, return_cause, exchange_cause, answer_to, rule, Share, asked, share_of, tells}
-use Rattle.pm_world.specs.State.{exchanged, host_after, next, event_cause, nothing}
+use Rattle.pm_world.specs.State.{exchanged, host_after, next, event_cause, no_share}
 use Rattle.pm_world.specs.Uncertainty.{Choice, IsLike, start_with, witness_start}
 use Rattle.pm_world.specs.declared.cause.Cause.TheVariants.{WrongKind, NotBetrayed}
 use Rattle.pm_world.proofs.Events.{or-none, rule-none, not-false, frame-request, good-answer, asked-next, IsLived, earlier, life-told}
@@ -240,7 +241,7 @@ each-start config words read output below =
     ∙ get_or-map-range_with_len (λ o. read (start_with config words o)) 0 8 output output 0 below (omega arith)
 
 -- its words
-register-of : (mode : ℕ) (word : Reg → ℕ) (register : Reg) → register_start register (start_of mode word) ≡ word register
+register-of : (mode : ℕ) (word : Reg → ℕ) (register : Reg) → register_start register (start_with_words mode word) ≡ word register
 register-of mode word register = grind arith
 
 -- are those that are given
@@ -565,9 +566,10 @@ beside-frame s event none stays = by (share-is s event) none stays where
   by share none stays = tt
 
 -- a job's end is none while it is open
-pub open-end : (setup : host.Setup) (entries : List host.Entry) → IsSome (host.open_job setup entries) → host.end_of setup entries ≡ None
+pub open-end : (setup : host.Setup) (entries : List host.Entry) → IsSome (host.open_job setup entries) → host.last_job_end setup entries
+    ≡ None
 unfolding host.open_job
-open-end setup entries some = go (host.end_of setup entries) some where
+open-end setup entries some = go (host.last_job_end setup entries) some where
   go : (end : Option JobEnd) → IsSome (cond (is_none end) (host.last_job entries) None) → end ≡ None
   go None some = refl
   go (Some end) some = cc
@@ -607,7 +609,7 @@ by-frame laws config passes before event entry lived told frame =
     record {
       open' = some;
       going = open-end setup entries (subst IsSome (laws.ends_are_told.job setup entries) some);
-      tells = subst (λ es. StepTells (host_now setup entries) entry (step_by (host.end_of setup es)) (host_now setup es)) (sym all)
+      tells = subst (λ es. StepTells (host_now setup entries) entry (step_by (host.last_job_end setup es)) (host_now setup es)) (sym all)
           (laws.ends_are_told.tells setup entries entry lived.made came frame);
     }
 
@@ -622,7 +624,7 @@ by-silence config passes before event told =
     let entries = (life config passes before).entries in
     let all : (life config passes (event ∷ before)).entries ≡ entries =
     entries-more config passes before event ∙ ap (λ o. option_to_list o ++ entries) told in
-    (ap (host_now setup) all, ap (host.end_of setup) all)
+    (ap (host_now setup) all, ap (host.last_job_end setup) all)
 
 -- a job that begins is open, and leaves the formats
 begun-job : (s : Summary) (job : host.Job) → (job_in (host_next s (host.Accepted job)) ≡ Some job)
@@ -889,7 +891,7 @@ either config false t u p q = q
 another-true : (config : Config) (s : Summary) (question : Question) (tries : ℕ) → Agree config s.formats → AsksFor config question →
     IsTrueHost config (another s question tries).after
 another-true config s question tries agree asks =
-    either config (eqb (tries + 1) s.setup.passes) (ends s job_end.Unknown) (goes_on s (Asks question (tries + 1)))
+    either config (eqb (tries + 1) s.setup.passes) (ends s job_end.Unknown) (goes_on_at s (Asks question (tries + 1)))
     (record { formats = agree; asks = tt }) (record { formats = agree; asks = asks })
 
 -- an order that read its cell back
@@ -1101,8 +1103,8 @@ stands laws config passes events lived spelled =
     }
 
 -- no format is known at the start
-true-start : (config : Config) (passes : ℕ) → IsTrueHost config (start config passes).host
-unfolding start
+true-start : (config : Config) (passes : ℕ) → IsTrueHost config (world_start config passes).host
+unfolding world_start
 true-start config passes = record { formats = agree-none config; asks = tt }
 
 -- the known formats are true after each life
@@ -1169,7 +1171,7 @@ orders-nearest laws config passes before cell x lived spelled =
       word = found.0;
       nearest = found.2;
       ordered = share-entries config passes before (OrderMicro cell x) (Some (host.Accepted (host.Order cell found.0)))
-          (ap (λ (w : Option ℕ). (option_map_or (λ j. tells (host.Accepted j)) (option_map (λ w. host.Order cell w) w) nothing).told)
+          (ap (λ (w : Option ℕ). (option_map_or (λ j. tells (host.Accepted j)) (option_map (λ w. host.Order cell w) w) no_share).told)
           found.1);
     }
 

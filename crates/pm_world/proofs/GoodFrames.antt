@@ -23,7 +23,7 @@ use Rattle.pm_device.specs.{declared.config.Config.Config, declared.converter.En
 use Rattle.pm_device.specs.Effect as device
 use Rattle.pm_device.specs.Held.{Held, mode_for, shape_for}
 use Rattle.pm_device.specs.Reply.{reply_of, register_bytes}
-use Rattle.pm_host.specs.{Cells.table, Lemmas.all_any-length, Now.now as host_now, declared.command.Command.Command}
+use Rattle.pm_host.specs.{Cells.table, Lemmas.all_any-length, Now.host_now, declared.command.Command.Command}
 use Rattle.pm_host.specs.{declared.knowledge.Possible.Possible, declared.knowledge.Possible.TheVariants.Any}
 use Rattle.pm_host.specs.Answers.{good_payload, good_word, word_in}
 use Rattle.pm_host.specs.Known.{Known, all_any, known_after, known_now, known_possible, known_standing}
@@ -31,7 +31,8 @@ use Rattle.pm_host.specs.Marks.{Good, marks}
 use Rattle.pm_host.specs.Messages.{cell_read, coefficients_read, mode_read, cell_write}
 use Rattle.pm_host.specs.Possible.{is_possible, only, possible_of}
 use Rattle.pm_host.specs.Sound.{IsStage, IsOrdering}
-use Rattle.pm_host.specs.Summary.{Change, Summary, answered, asked as question_asked, change, ends, idle, marked, next as host_next}
+use Rattle.pm_host.specs.Summary.{Change, Summary, request_answered, question_answered as question_asked, change, ends, idle, marked}
+use Rattle.pm_host.specs.Summary.{host_next}
 use Rattle.pm_host.specs.Summary.{read_another, read_back, sending_in, stage_message, step_of, format_at, learned, mode_taken, finished}
 use Rattle.pm_host.specs.Summary.{possible_at}
 use Rattle.pm_host.specs.Transcript as host
@@ -41,7 +42,8 @@ use Rattle.pm_host.specs.declared.question.Question.TheVariants.{Word, Mode, Coe
 use Rattle.pm_host.specs.declared.stage.Stage.TheVariants.{Asks, Reads, Writes, Sends as SendsCommand}
 use Rattle.pm_world.specs.{Below.Below, Lemmas.now-config, Setup.setup_of, declared.event.Arrival.Arrival, declared.event.Back.Back}
 use Rattle.pm_world.specs.{declared.event.Event.Event}
-use Rattle.pm_world.specs.GoodBus.{IsRead, ReadDone, WasRead, comes_whole, held_after, is_reading, WasLearned, stage_after, IsWritten}
+use Rattle.pm_world.specs.GoodBus.{IsRead, ReadDone, WasRead, comes_whole, word_held_after, is_reading_change, WasLearned, stage_after}
+use Rattle.pm_world.specs.GoodBus.{IsWritten}
 use Rattle.pm_world.specs.GoodBus.{WentInPass, delivers_whole, is_beside, WasWritten, WritesAgain, AreThere, Checks, Sweeps, is_among}
 use Rattle.pm_world.specs.GoodBus.{is_surprising, GoodFrames}
 use Rattle.pm_world.specs.Honest.{IsSpelled, is_whole}
@@ -74,7 +76,7 @@ quiet-none config passes before = record { host = refl; words = refl; store = re
 
 -- a reading
 pub quiet-reading : Below → {config : Config} {passes : ℕ} (before : List Event) (event : Event) →
-    IsLived config passes (event ∷ before) → is_reading event ≡ true → IsQuiet config passes before (event ∷ before)
+    IsLived config passes (event ∷ before) → is_reading_change event ≡ true → IsQuiet config passes before (event ∷ before)
 unfolding next
 quiet-reading laws {config = config} {passes = passes} before (Reading output code word) lived is =
     let s = now config passes before in
@@ -101,11 +103,11 @@ quiet-both one two = record {
 
 -- readings, one after another
 pub quiet-readings : Below → {config : Config} {passes : ℕ} (before readings : List Event) →
-    IsLived config passes (readings ++ before) → list_all is_reading readings ≡ true →
+    IsLived config passes (readings ++ before) → list_all is_reading_change readings ≡ true →
     IsQuiet config passes before (readings ++ before)
 quiet-readings laws {config = config} {passes = passes} before [] lived all = quiet-none config passes before
 quiet-readings laws before (event ∷ readings) lived all =
-    let parts = and_parts (is_reading event) (list_all is_reading readings) all in
+    let parts = and_parts (is_reading_change event) (list_all is_reading_change readings) all in
     quiet-both (quiet-readings laws before readings (earlier lived) parts.1) (quiet-reading laws (readings ++ before) event lived parts.0)
 
 -- what an exchange that comes whole tells the host
@@ -181,7 +183,7 @@ was-answered laws {config = config} {passes = passes} request {before = before} 
 
 -- each cell that is there accepts its word
 now-accepted : Below → {config : Config} {passes : ℕ} {events : List Event} (cell : Cell) → IsLived config passes events →
-    IsCell config.count cell → cell_accepts cell (held_after config passes events cell) ≡ true
+    IsCell config.count cell → cell_accepts cell (word_held_after config passes events cell) ≡ true
 unfolding now state_of
 now-accepted laws {config = config} {passes = passes} {events = events} cell lived here =
     laws.words_have_an_origin.accepted config (life config passes events).past cell lived.sound here
@@ -189,7 +191,7 @@ now-accepted laws {config = config} {passes = passes} {events = events} cell liv
 -- what is read of a cell is the converter's word
 pub answered-word : Below → {config : Config} {passes : ℕ} {before after : List Event} (cell : Cell) → IsLived config passes before →
     IsCell config.count cell → (a : WasAnswered config passes (cell_read cell) before after) →
-    good_word config.addr cell a.answer ≡ Some (held_after config passes before cell)
+    good_word config.addr cell a.answer ≡ Some (word_held_after config passes before cell)
 answered-word laws {config = config} {passes = passes} {before = before} cell lived here a =
     let k = sym a.config_is in
     ap (good_word config.addr cell) a.is
@@ -219,7 +221,7 @@ pub check-change : (h : Summary) (cell : Cell) (word tries : ℕ) (bytes : List 
     good_word h.setup.addr cell bytes ≡ Some word → change h (host.Got bytes) ≡ ends (marked (idle h) (Good cell word)) Done
 check-change h cell word tries bytes stage good =
     let found = from_some word_in (good_payload h.setup.addr (cell_read cell) bytes) word good in
-    ap (λ o. answered (idle h) o bytes) stage
+    ap (λ o. request_answered (idle h) o bytes) stage
     ∙ (ap (question_asked (idle h) (Word cell) tries) found.1 ∙ ap (λ n. ends (marked (idle h) (Good cell n)) Done) found.2)
 
 -- an order that is read back and has its answer
@@ -227,7 +229,7 @@ pub order-change : (h : Summary) (cell : Cell) (word read pass : ℕ) (bytes : L
     good_word h.setup.addr cell bytes ≡ Some read →
     change h (host.Got bytes) ≡ read_another (marked (idle h) (Good cell read)) cell word pass read
 order-change h cell word read pass bytes stage good =
-    ap (λ o. answered (idle h) o bytes) stage ∙ ap (read_back (idle h) cell word pass) good
+    ap (λ o. request_answered (idle h) o bytes) stage ∙ ap (read_back (idle h) cell word pass) good
 
 -- the host holds words for each place
 now-possibles : (config : Config) (passes : ℕ) (events : List Event) → length (now config passes events).host.known.possible ≡ places
@@ -289,11 +291,11 @@ knows-of laws known cell word here possibles standings =
 pub was-read : Below → {config : Config} {passes : ℕ} {before after : List Event} {cell : Cell} → IsLived config passes before →
     IsCell config.count cell → (a : WasAnswered config passes (cell_read cell) before after) →
     (now config passes after).host.known
-    ≡ known_after (now config passes before).host.known (Good cell (held_after config passes before cell)) →
+    ≡ known_after (now config passes before).host.known (Good cell (word_held_after config passes before cell)) →
     WasRead config passes cell before after
 was-read laws {config = config} {passes = passes} {before = before} {after = after} {cell = cell} lived here a known =
-    let word = held_after config passes before cell in
-    let kept : word ≡ held_after config passes after cell = ap (λ w. word_at w cell) (sym a.words) in
+    let word = word_held_after config passes before cell in
+    let kept : word ≡ word_held_after config passes after cell = ap (λ w. word_at w cell) (sym a.words) in
     let k = knows-of laws (now config passes before).host.known cell word (eight config.count cell lived.sound.few here)
     (now-possibles config passes before) (now-standings config passes before) in
     record {
@@ -319,7 +321,7 @@ check-done laws {config = config} {passes = passes} {before = before} {after = a
     let here = check-there laws lived stage in
     let good = ap (λ (u : host.Setup). good_word u.addr cell a.answer) (now-setup config passes before)
     ∙ answered-word laws cell lived here a in
-    let turn = check-change h cell (held_after config passes before cell) tries a.answer stage good in
+    let turn = check-change h cell (word_held_after config passes before cell) tries a.answer stage good in
     record {
       read = was-read laws lived here a (ap (λ (t : Summary). t.known) a.summary ∙ ap (λ (t : Change). t.after.known) turn);
       done = a.end ∙ ap (λ (t : Change). end_by t.step) turn;
@@ -329,12 +331,12 @@ check-done laws {config = config} {passes = passes} {before = before} {after = a
 pub order-done : Below → {config : Config} {passes : ℕ} {before after : List Event} {cell : Cell} {word pass : ℕ} →
     IsLived config passes before → IsLived config passes after →
     (now config passes before).host.stage ≡ Some (Reads cell word pass) → IsRead config passes (cell_read cell) before after →
-    held_after config passes before cell ≡ word → ReadDone config passes cell before after
+    word_held_after config passes before cell ≡ word → ReadDone config passes cell before after
 unfolding host_next step_of
 order-done laws {config = config} {passes = passes} {before = before} {after = after} {cell = cell} {word = word} {pass = pass} lived all
     stage read held =
     let h = (now config passes before).host in
-    let found = held_after config passes before cell in
+    let found = word_held_after config passes before cell in
     let a = was-answered laws (cell_read cell) all (ap (option_map stage_message) stage) read in
     let here = order-there laws lived stage in
     let good = ap (λ (u : host.Setup). good_word u.addr cell a.answer) (now-setup config passes before)
@@ -350,14 +352,14 @@ order-done laws {config = config} {passes = passes} {before = before} {after = a
 pub order-again : Below → {config : Config} {passes : ℕ} {before after : List Event} {cell : Cell} {word pass : ℕ} →
     IsLived config passes before → IsLived config passes after →
     (now config passes before).host.stage ≡ Some (Reads cell word pass) → IsRead config passes (cell_read cell) before after →
-    held_after config passes before cell ≢ word → pass + 1 < passes →
+    word_held_after config passes before cell ≢ word → pass + 1 < passes →
     ((now config passes after).host.stage ≡ Some (Writes cell word (pass + 1)))
     × WasAnswered config passes (cell_read cell) before after
 unfolding host_next step_of
 order-again laws {config = config} {passes = passes} {before = before} {after = after} {cell = cell} {word = word} {pass = pass} lived all
     stage read differs left =
     let h = (now config passes before).host in
-    let found = held_after config passes before cell in
+    let found = word_held_after config passes before cell in
     let a = was-answered laws (cell_read cell) all (ap (option_map stage_message) stage) read in
     let here = order-there laws lived stage in
     let more : pass + 1 ≢ h.setup.passes = λ e.
@@ -374,14 +376,14 @@ order-again laws {config = config} {passes = passes} {before = before} {after = 
 pub order-last : Below → {config : Config} {passes : ℕ} {before after : List Event} {cell : Cell} {word pass : ℕ} →
     IsLived config passes before → IsLived config passes after →
     (now config passes before).host.stage ≡ Some (Reads cell word pass) → IsRead config passes (cell_read cell) before after →
-    held_after config passes before cell ≢ word → pass + 1 ≡ passes →
+    word_held_after config passes before cell ≢ word → pass + 1 ≡ passes →
     WasRead config passes cell before after
-    × ((now config passes after).end ≡ Some (Differs (held_after config passes before cell)))
+    × ((now config passes after).end ≡ Some (Differs (word_held_after config passes before cell)))
 unfolding host_next step_of
 order-last laws {config = config} {passes = passes} {before = before} {after = after} {cell = cell} {word = word} {pass = pass} lived all
     stage read differs last =
     let h = (now config passes before).host in
-    let found = held_after config passes before cell in
+    let found = word_held_after config passes before cell in
     let a = was-answered laws (cell_read cell) all (ap (option_map stage_message) stage) read in
     let here = order-there laws lived stage in
     let same : pass + 1 ≡ h.setup.passes = last ∙ sym (ap (λ (u : host.Setup). u.passes) (now-setup config passes before)) in
@@ -499,7 +501,7 @@ mode-learned laws {config = config} {passes = passes} {before = before} {after =
 
     turn : change (now config passes before).host (host.Got a.answer)
         ≡ mode_taken (idle (now config passes before).host) output (mode_of (mode_for config output))
-    turn = ap (λ o. answered (idle h) o a.answer) stage
+    turn = ap (λ o. request_answered (idle h) o a.answer) stage
         ∙ (ap (λ (u : host.Setup). question_asked (idle h) (Mode output) tries (good_payload u.addr (mode_read output) a.answer))
         (now-setup config passes before)
         ∙ (ap (question_asked (idle h) (Mode output) tries) answer.good ∙ ap (λ n. mode_taken (idle h) output (mode_of n)) answer.byte))
@@ -557,7 +559,7 @@ pub coefficients-learned : Below → {config : Config} {passes : ℕ} {before af
 coefficients-learned laws {config = config} {passes = passes} {before = before} {after = after} {output = output} {tries = tries} lived all
     spelled stage read =
     learned-so laws (shape_for config output) a.answer lived below refl a.summary a.end
-    (ap (λ o. answered (idle h) o a.answer) stage
+    (ap (λ o. request_answered (idle h) o a.answer) stage
     ∙ (ap (λ (u : host.Setup). question_asked (idle h) (Coefficients output) tries (good_payload u.addr coefficients_read a.answer))
     (now-setup config passes before)
     ∙ (ap (question_asked (idle h) (Coefficients output) tries) answer.good
@@ -658,14 +660,14 @@ finish-reads s acked cell word pass stage = ap (λ o. (finished (idle s.host) o 
 -- after a write that was heard whole the host reads the cell, which has the word
 pub record IsReading (config : Config) (passes : ℕ) (cell : Cell) (word pass : ℕ) (acked : Bool) (before events : List Event) : Type 0 where
   pub stage : (now config passes events).host.stage ≡ Some (Reads cell word pass)
-  pub held : held_after config passes events cell ≡ word
+  pub held : word_held_after config passes events cell ≡ word
   pub entries : (life config passes events).entries ≡ host.Finished acked ∷ (life config passes before).entries
 
 -- the host reads the cell, which has the word, after an allowed write of it was heard whole
 pub written-turn : Below → {config : Config} {passes : ℕ} {before events : List Event} {cell : Cell} {word pass : ℕ} {acked : Bool} →
     IsLived config passes before → IsLived config passes events →
     (now config passes before).host.stage ≡ Some (Writes cell word pass) →
-    is_allowed (held_after config passes before Protect) (cell_code cell) ≡ true →
+    is_allowed (word_held_after config passes before Protect) (cell_code cell) ≡ true →
     IsWritten (frame_of config.addr (cell_write cell word)) acked before events →
     IsReading config passes cell word pass acked before events
 unfolding next
@@ -691,13 +693,13 @@ written-turn laws {config = config} {passes = passes} {before = before} {events 
 pub pass-done : Below → {config : Config} {passes : ℕ} {before middle after : List Event} {cell : Cell} {word pass : ℕ} {acked : Bool} →
     IsLived config passes before → IsLived config passes middle → IsLived config passes after →
     (now config passes before).host.stage ≡ Some (Writes cell word pass) →
-    is_allowed (held_after config passes before Protect) (cell_code cell) ≡ true →
+    is_allowed (word_held_after config passes before Protect) (cell_code cell) ≡ true →
     IsWritten (frame_of config.addr (cell_write cell word)) acked before middle →
     IsRead config passes (cell_read cell) middle after → WentInPass config passes cell word acked before after
 pass-done laws {config = config} {passes = passes} {after = after} {cell = cell} lived half all stage allowed w r =
     let turn = written-turn laws lived half stage allowed w in
     let e = order-done laws half all turn.stage r turn.held in
-    let held : held_after config passes after cell ≡ _ = ap (λ (x : Words). word_at x cell) e.read.kept ∙ turn.held in
+    let held : word_held_after config passes after cell ≡ _ = ap (λ (x : Words). word_at x cell) e.read.kept ∙ turn.held in
     record {
       answer = e.read.answer;
       good = e.read.good ∙ ap (λ n. Some n) held;
@@ -713,8 +715,8 @@ pub three-done : Below → {config : Config} {passes : ℕ} {before first middle
     {acked : Bool} → IsLived config passes before → IsLived config passes first → IsLived config passes middle →
     IsLived config passes after →
     (now config passes before).host.stage ≡ Some (Reads cell word pass) →
-    (held_after config passes before cell ≢ word) × (pass + 1 < passes) →
-    is_allowed (held_after config passes before Protect) (cell_code cell) ≡ true →
+    (word_held_after config passes before cell ≢ word) × (pass + 1 < passes) →
+    is_allowed (word_held_after config passes before Protect) (cell_code cell) ≡ true →
     IsRead config passes (cell_read cell) before first →
     IsWritten (frame_of config.addr (cell_write cell word)) acked first middle →
     IsRead config passes (cell_read cell) middle after →
@@ -793,7 +795,7 @@ written-lived {config = config} {passes = passes} {acked = acked} {before = befo
 pub again-done : Below → {config : Config} {passes : ℕ} {before after : List Event} {cell : Cell} {word pass : ℕ} →
     IsLived config passes before → IsLived config passes after →
     (now config passes before).host.stage ≡ Some (Reads cell word pass) → IsRead config passes (cell_read cell) before after →
-    held_after config passes before cell ≢ word → pass + 1 < passes → WritesAgain config passes cell word pass before after
+    word_held_after config passes before cell ≢ word → pass + 1 < passes → WritesAgain config passes cell word pass before after
 again-done laws {cell = cell} lived all stage read differs left =
     let again = order-again laws lived all stage read differs left in
     record {
@@ -809,7 +811,7 @@ again-done laws {cell = cell} lived all stage read differs left =
 -- a delivery of an order's write whose code WRITE_PROTECT forbids moves no word
 deliver-keeps : Below → {config : Config} {passes : ℕ} {events : List Event} {cell : Cell} {word pass : ℕ} (arrival : Arrival) →
     IsLived config passes (Deliver arrival ∷ events) → (now config passes events).host.stage ≡ Some (Writes cell word pass) →
-    is_allowed (held_after config passes events Protect) (cell_code cell) ≡ false →
+    is_allowed (word_held_after config passes events Protect) (cell_code cell) ≡ false →
     words_at config passes (Deliver arrival ∷ events) ≡ words_at config passes events
 deliver-keeps laws {config = config} {passes = passes} {events = events} {cell = cell} {word = word} arrival lived stage forbidden =
     by (went laws config passes events (Deliver arrival) lived)
@@ -824,7 +826,7 @@ deliver-keeps laws {config = config} {passes = passes} {events = events} {cell =
         let same : Some job ≡ Some (pending.Order cell word) = sym t.opened ∙ opened in
         let is : job ≡ pending.Order cell word = cc in
         absurd (false≢true (sym forbidden
-        ∙ subst (λ j. is_allowed (held_after config passes events Protect) (pending_code j) ≡ true) is t.allowed))
+        ∙ subst (λ j. is_allowed (word_held_after config passes events Protect) (pending_code j) ≡ true) is t.allowed))
 
     by : Went config passes events (Deliver arrival) (now config passes events).device
         (now config passes (Deliver arrival ∷ events)).device
@@ -837,7 +839,7 @@ deliver-keeps laws {config = config} {passes = passes} {events = events} {cell =
 -- an event beside such a write moves no word
 beside-keeps : Below → {config : Config} {passes : ℕ} {events : List Event} {cell : Cell} {word pass : ℕ} (event : Event) →
     IsLived config passes (event ∷ events) → is_beside event ≡ true → (now config passes events).host.stage ≡ Some (Writes cell word pass) →
-    is_allowed (held_after config passes events Protect) (cell_code cell) ≡ false →
+    is_allowed (word_held_after config passes events Protect) (cell_code cell) ≡ false →
     words_at config passes (event ∷ events) ≡ words_at config passes events
 beside-keeps laws (Deliver arrival) lived is stage forbidden = deliver-keeps laws arrival lived stage forbidden
 beside-keeps laws {events = events} (Reading output code value) lived is stage forbidden =
@@ -848,7 +850,7 @@ beside-keeps laws event lived is stage forbidden = cc
 all-keep : Below → {config : Config} {passes : ℕ} (before : List Event) {cell : Cell} {word pass : ℕ} (between : List Event) →
     IsLived config passes (between ++ before) → list_all is_beside between ≡ true →
     (now config passes before).host.stage ≡ Some (Writes cell word pass) →
-    is_allowed (held_after config passes before Protect) (cell_code cell) ≡ false →
+    is_allowed (word_held_after config passes before Protect) (cell_code cell) ≡ false →
     words_at config passes (between ++ before) ≡ words_at config passes before
 all-keep laws before [] lived all stage forbidden = refl
 all-keep laws before {cell = cell} (event ∷ between) lived all stage forbidden =
@@ -876,7 +878,7 @@ write-done laws {config = config} {passes = passes} {before = before} {cell = ce
           ∙ finish-reads (now config passes middle) acked cell word pass (ap (λ (h : Summary). h.stage) so.summary ∙ stage);
       one_frame = share-entries config passes middle (Finish acked) (Some (host.Finished acked)) refl
           ∙ ap (λ l. host.Finished acked ∷ l) so.entries;
-      taken = λ allowed. subst (λ es. held_after config passes es cell ≡ word) w.is
+      taken = λ allowed. subst (λ es. word_held_after config passes es cell ≡ word) w.is
           (written-turn laws lived all stage allowed w).held;
       kept = λ forbidden. ap (λ (t : State). t.device.words) same
           ∙ all-keep laws before w.between (earlier whole) w.beside stage forbidden;
@@ -949,7 +951,7 @@ unacked-end laws {config = config} {passes = passes} {before = before} {command 
 
 -- what a check makes of what was known before it was asked for
 record Checked (config : Config) (passes : ℕ) (cell : Cell) (before after : List Event) : Type 0 where
-  alone : possible_at (now config passes after).host cell ≡ only (held_after config passes after cell)
+  alone : possible_at (now config passes after).host cell ≡ only (word_held_after config passes after cell)
   others : (other : Cell) → IsCell 8 other → same_cell cell other ≡ false → possible_at (now config passes after).host other
       ≡ cond (is_surprising config passes before cell) Any (possible_at (now config passes before).host other)
   seen : (now config passes after).host.known.seen
@@ -1011,7 +1013,7 @@ checked laws {config = config} {passes = passes} {cell = cell} {before = before}
 
 -- the converter's word is alone possible for a cell; or any is
 record IsAlone (config : Config) (passes : ℕ) (events : List Event) (cell : Cell) : Type 0 where
-  is : possible_at (now config passes events).host cell ≡ only (held_after config passes events cell)
+  is : possible_at (now config passes events).host cell ≡ only (word_held_after config passes events cell)
 
 data IsSettled (config : Config) (passes : ℕ) (events : List Event) (cell : Cell) : Type 0 where
   any : possible_at (now config passes events).host cell ≡ Any → IsSettled config passes events cell
@@ -1021,9 +1023,9 @@ data IsSettled (config : Config) (passes : ℕ) (events : List Event) (cell : Ce
 not-surprising : {config : Config} {passes : ℕ} {events : List Event} (cell : Cell) → IsSettled config passes events cell →
     is_surprising config passes events cell ≡ false
 not-surprising {config = config} {passes = passes} {events = events} cell (any free) =
-    ap (λ (p : Possible). not (is_possible (held_after config passes events cell) p)) free
+    ap (λ (p : Possible). not (is_possible (word_held_after config passes events cell) p)) free
 not-surprising {config = config} {passes = passes} {events = events} cell (alone one) =
-    let word = held_after config passes events cell in
+    let word = word_held_after config passes events cell in
     ap (λ (p : Possible). not (is_possible word p)) one.is ∙ ap (λ b. not (b || false)) (eq-eqb word word refl)
 
 -- a cell whose word stays, and its possible words too, is alone or settled as before
@@ -1162,7 +1164,7 @@ sweeps-parts config passes (cell ∷ cells) others before after s =
 pub swept : Below → {config : Config} {passes : ℕ} (before after : List Event) (cells : List Cell) (last : Cell) →
     IsLived config passes after → AreThere config.count (last ∷ cells) → Sweeps config passes (cells ++ last ∷ cells) before after →
     (cell : Cell) → is_among cell (last ∷ cells) ≡ true →
-    possible_at (now config passes after).host cell ≡ only (held_after config passes after cell)
+    possible_at (now config passes after).host cell ≡ only (word_held_after config passes after cell)
 swept laws {config = config} {passes = passes} before after cells last lived all s cell h =
     let parts = sweeps-parts config passes cells (last ∷ cells) before after s in
     let middle = parts.middle in

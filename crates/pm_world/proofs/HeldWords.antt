@@ -14,17 +14,17 @@ use Rattle.pm_frame.specs.Layout.{is_read_message}
 use Rattle.pm_model.specs.{OrderMachine.words_taken, declared.order_machine.PendingJob.PendingJob}
 use Rattle.pm_model.specs.Settings.{Words, AreWords, word_at, with_outputs, with_word}
 use Rattle.pm_model.specs.declared.order_machine.PendingJob.TheVariants as pending
-use Rattle.pm_device.specs.{Held.Held, History.now as device_now, declared.config.Config.Config}
+use Rattle.pm_device.specs.{Held.Held, History.device_now, declared.config.Config.Config}
 use Rattle.pm_device.specs.Effect as device
 use Rattle.pm_host.specs.{Standing.standing_of, Told.is_of_frame, Transcript.Setup, declared.command.Command.Command}
 use Rattle.pm_host.specs.{declared.fault.HostFault.HostFault, declared.job.JobEnd.JobEnd, declared.job.JobEnd.TheVariants.Differs}
 use Rattle.pm_host.specs.{declared.knowledge.Possible.Possible, declared.stage.Stage.Stage}
 use Rattle.pm_host.specs.Answers.{good_payload, good_word, word_in}
 use Rattle.pm_host.specs.Ended.{job_in, stage_job, EndTells, StepTells, word_told}
-use Rattle.pm_host.specs.Lemmas.{reads_cell as is-request, writes_cell}
+use Rattle.pm_host.specs.Lemmas.{cell_read_is_request as is-request, writes_cell}
 use Rattle.pm_host.specs.Marks.{read_by, marks, Mark, Put, Good, put_by, puts, goods}
 use Rattle.pm_host.specs.Messages.{cell_read, cell_write}
-use Rattle.pm_host.specs.Now.{now as host_now, job_stage, stage_of, AreTold}
+use Rattle.pm_host.specs.Now.{host_now, job_stage, stage_of, AreTold}
 use Rattle.pm_host.specs.Possible.{is_possible, possible_of, restart_seen_of}
 use Rattle.pm_host.specs.Refusals.{IsSetup, cell_fault, micro_fault, micro_word, voltage_fault}
 use Rattle.pm_host.specs.Sound.{IsOrdering, IsStage}
@@ -44,9 +44,9 @@ use Rattle.pm_world.specs.Legal.{back_bytes}
 use Rattle.pm_world.specs.Lemmas.{entries-more, now-config}
 use Rattle.pm_world.specs.Life.{life, now, state_of, AreTaken}
 use Rattle.pm_world.specs.OpenLists.{are_open, closes, lists_other, stays_open}
-use Rattle.pm_world.specs.Possible.{restarts_host, has_read, is_surprise_for, surprises, surprises_by, restarted_between}
+use Rattle.pm_world.specs.Possible.{restarts_host, host_has_read, is_surprise_for, answer_surprises, surprises_by, restarted_between}
 use Rattle.pm_world.specs.Possible.{restarted_since_host, PossibleIsHeld, SeenIsTrue}
-use Rattle.pm_world.specs.Retelling.{command_pending, pending_of, taken_by, open_pending, taken_at}
+use Rattle.pm_world.specs.Retelling.{command_pending, pending_of, job_taken_by, open_pending, taken_at}
 use Rattle.pm_world.specs.State.{Share, State, share_of, exchanged, delivered, device_after, next, event_cause, exchange_cause, answer_to}
 use Rattle.pm_world.specs.State.{event_limit, asked, refused}
 use Rattle.pm_world.specs.Uncertainty.{AreLegal, ArePossible, AreSteady, Choice, Leaves, may_hold, since_restart}
@@ -200,13 +200,13 @@ took-known laws {cell = cell} (Some pending.Restore) knows there is so_far =
 -- what is known stays true by a delivery, whichever job takes or none
 taken-known : Below → {s : State} {setup : host.Setup} {entries : List host.Entry} {cell : Cell} {restarted : Bool}
     (arrival : Arrival) (new : Held) → Knows s setup entries → IsCell 8 cell →
-    TookJob s.device new (taken_by s.device.config.addr s.device.words arrival (stage_pending s.host.stage)) →
+    TookJob s.device new (job_taken_by s.device.config.addr s.device.words arrival (stage_pending s.host.stage)) →
     IsKnown (marks setup entries) cell restarted s.device.words → IsKnown (marks setup entries) cell restarted new.words
 taken-known laws {s = s} {setup = setup} {entries = entries} {cell = cell} {restarted = restarted} arrival new knows there took so_far =
     subst (IsKnown (marks setup entries) cell restarted) (sym took.words)
-    (go (taken_by s.device.config.addr s.device.words arrival (stage_pending s.host.stage)) refl)
+    (go (job_taken_by s.device.config.addr s.device.words arrival (stage_pending s.host.stage)) refl)
   where
-    go : (job : Option PendingJob) → taken_by s.device.config.addr s.device.words arrival (stage_pending s.host.stage) ≡ job →
+    go : (job : Option PendingJob) → job_taken_by s.device.config.addr s.device.words arrival (stage_pending s.host.stage) ≡ job →
         IsKnown (marks setup entries) cell restarted (words_taken s.device.words s.device.store job)
     go None e = so_far
     go (Some job) e = took-known laws (Some job) knows there
@@ -1007,7 +1007,7 @@ by-asked laws config passes before event job lived asks =
 
 -- a restart of the host
 by-restart : (config : Config) (passes : ℕ) (before : List Event) → Opens config passes before RestartHost
-unfolding now state_of host_now stage_of host.open_job host.end_of
+unfolding now state_of host_now stage_of host.open_job host.last_job_end
 by-restart config passes before =
     let all : (life config passes (RestartHost ∷ before)).entries ≡ host.Restarted ∷ (life config passes before).entries =
     entries-more config passes before RestartHost in
@@ -1079,7 +1079,7 @@ opens-step laws config passes before event lived job = go (asked (now config pas
 -- over a whole life
 pub life-opens : Below → (config : Config) (passes : ℕ) (events : List Event) → IsLived config passes events →
     left_open config passes events ≡ true → opens_by (job_in (now config passes events).host) ≡ true
-unfolding now state_of host_now stage_of host.open_job host.end_of life
+unfolding now state_of host_now stage_of host.open_job host.last_job_end life
 life-opens laws config passes [] lived all = refl
 life-opens laws config passes (event ∷ before) lived all =
     (opens-step laws config passes before event lived (life-opens laws config passes before (earlier lived))).job all
@@ -1150,10 +1150,11 @@ goods-surprise laws {s = s} {setup = setup} {entries = entries} (one_good read w
       | inr bad ↦ absurd (false≢true bad)
     ]
 
--- what the host was told is a surprise for a cell if `surprises` says so
+-- what the host was told is a surprise for a cell if `answer_surprises` says so
 told-surprise : Below → {s : State} {setup : host.Setup} {entries : List host.Entry} (event : Event) (cell : Cell)
     (told : Option host.Entry) → Knows s setup entries →
-    event_cause s event ≡ None → (share_of s event).told ≡ told → surprises setup entries cell told ≡ true → Surprise s setup entries cell
+    event_cause s event ≡ None → (share_of s event).told ≡ told → answer_surprises setup entries cell told ≡ true →
+    Surprise s setup entries cell
 told-surprise laws {setup = setup} {entries = entries} event cell (Some (host.Got bytes)) knows free told h =
     goods-surprise laws (are-goods setup entries bytes) cell knows
     (got-true laws event bytes knows free told) h
@@ -1167,7 +1168,7 @@ count-is config passes events cell there = subst (λ (k : Config). IsCell k.coun
 -- the converter restarted since the last good answer for its cell, which there was
 surprise-restarted : Below → (config : Config) (passes : ℕ) (before : List Event) (cell : Cell) → IsLived config passes before →
     Surprise (now config passes before) (setup_of config passes) (life config passes before).entries cell →
-    (has_read config passes cell before ≡ true) × (restarted_since config passes cell before ≡ true)
+    (host_has_read config passes cell before ≡ true) × (restarted_since config passes cell before ≡ true)
 unfolding now state_of
 surprise-restarted laws config passes before cell lived surprise = (
   listed-read config passes cell before (λ any.
@@ -1186,7 +1187,7 @@ surprise-restarted laws config passes before cell lived surprise = (
 -- an event that surprises comes after a good answer for the cell and a restart of the converter since
 event-surprise : Below → (config : Config) (passes : ℕ) (before : List Event) (event : Event) (cell : Cell) →
     IsLived config passes (event ∷ before) → surprises_by config passes cell before event ≡ true →
-    (has_read config passes cell before ≡ true) × (restarted_since config passes cell before ≡ true)
+    (host_has_read config passes cell before ≡ true) × (restarted_since config passes cell before ≡ true)
 event-surprise laws config passes before event cell lived h =
     surprise-restarted laws config passes before cell (earlier lived)
     (told-surprise laws event cell _
@@ -1197,7 +1198,7 @@ record SurprisedBy (s : State) (setup : host.Setup) (entries : List host.Entry) 
   cell : Cell
   there : IsCell s.device.config.count cell
   read : reads setup entries cell told ≡ true
-  surprising : surprises setup entries cell told ≡ true
+  surprising : answer_surprises setup entries cell told ≡ true
 
 -- a write that begins shows no restart
 puts-seen : (new ms : List Mark) → ArePuts new → restart_seen_of (new ++ ms) ≡ restart_seen_of ms
@@ -1249,7 +1250,7 @@ told-seen laws (Some host.Restarted) knows seen = absurd (false≢true seen)
 between-more : (config : Config) (passes : ℕ) (cell : Cell) (before : List Event) (event : Event) →
     restarted_between config passes cell (event ∷ before)
     ≡ cond (restarts_host event) false
-    ((reads_cell config passes cell before event && (has_read config passes cell before && restarted_since config passes cell before))
+    ((reads_cell config passes cell before event && (host_has_read config passes cell before && restarted_since config passes cell before))
     || restarted_between config passes cell before)
 unfolding restarted_between
 between-more config passes cell before event = refl
@@ -1274,14 +1275,15 @@ life-seen laws config passes (event ∷ before) lived seen =
     after = ap (λ es. restart_seen_of (marks (setup_of config passes) es)) (sym (entries-more config passes before event)) ∙ seen
 
     here : (cell : Cell) → restarts_host event ≡ false →
-        ((reads_cell config passes cell before event && (has_read config passes cell before && restarted_since config passes cell before))
+        ((reads_cell config passes cell before event
+        && (host_has_read config passes cell before && restarted_since config passes cell before))
         || restarted_between config passes cell before) ≡ true →
         restarted_between config passes cell (event ∷ before) ≡ true
     here cell e h =
         between-more config passes cell before event
         ∙ (ap (λ b. cond b false
         ((reads_cell config passes cell before event &&
-        (has_read config passes cell before && restarted_since config passes cell before))
+        (host_has_read config passes cell before && restarted_since config passes cell before))
         || restarted_between config passes cell before)) e ∙ h)
 
     newest : restarts_host event ≡ false → SurprisedBy (now config passes before) (setup_of config passes)
@@ -1311,16 +1313,16 @@ life-seen laws config passes (event ∷ before) lived seen =
         ]
 
 -- a restart since a cell was read is one since the host started
-pub since-started : (config : Config) (passes : ℕ) (cell : Cell) (events : List Event) → has_read config passes cell events ≡ true →
+pub since-started : (config : Config) (passes : ℕ) (cell : Cell) (events : List Event) → host_has_read config passes cell events ≡ true →
     restarted_since config passes cell events ≡ true → restarted_since_host events ≡ true
-unfolding has_read restarted_since restarted_since_host
+unfolding host_has_read restarted_since restarted_since_host
 since-started config passes cell [] read since = cc
 since-started config passes cell (event ∷ before) read since =
     let running = cond-off (restarts_host event) _ read in
     let unread = cond-off (reads_cell config passes cell before event) _ since in
     rw running.0 (go (restarts_converter event) unread.1
     (since-started config passes cell before
-    (or-unread (reads_cell config passes cell before event) (has_read config passes cell before) unread.0 running.1)))
+    (or-unread (reads_cell config passes cell before event) (host_has_read config passes cell before) unread.0 running.1)))
   where
     or-unread : (a b : Bool) → a ≡ false → (a || b) ≡ true → b ≡ true
     or-unread true b e h = cc
@@ -1340,10 +1342,10 @@ between-started config passes cell (event ∷ before) between =
     let running = cond-off (restarts_host event) _ between in
     rw running.0 (or_right (restarts_converter event) (restarted_since_host before)
     (elim (or-one (reads_cell config passes cell before event &&
-    (has_read config passes cell before && restarted_since config passes cell before)) (restarted_between config passes cell before)
+    (host_has_read config passes cell before && restarted_since config passes cell before)) (restarted_between config passes cell before)
     running.1) [
       | inl newest ↦
-          (let parts = and_parts (has_read config passes cell before) (restarted_since config passes cell before)
+          (let parts = and_parts (host_has_read config passes cell before) (restarted_since config passes cell before)
           (and_parts (reads_cell config passes cell before event) _ newest).1 in
           since-started config passes cell before parts.0 parts.1)
       | inr older ↦ between-started config passes cell before older

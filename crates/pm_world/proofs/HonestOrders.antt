@@ -20,7 +20,7 @@ use Rattle.pm_host.specs.Ended.{job_in, stage_job}
 use Rattle.pm_host.specs.Frames.{frames_from, frames_left}
 use Rattle.pm_host.specs.Messages.{cell_read, command_message, cell_write}
 use Rattle.pm_host.specs.Refusals.{IsSetup, micro_word}
-use Rattle.pm_host.specs.Summary.{Summary, stage_message, begins, next as host_next, sending_in}
+use Rattle.pm_host.specs.Summary.{Summary, stage_message, begins, host_next, sending_in}
 use Rattle.pm_host.specs.Transcript as host
 use Rattle.pm_host.specs.declared.job.JobEnd.TheVariants.{Done, Differs, Learned, Unknown}
 use Rattle.pm_host.specs.declared.question.Question.TheVariants.{Word, Mode, Coefficients}
@@ -28,14 +28,14 @@ use Rattle.pm_host.specs.declared.stage.Stage.TheVariants.{Asks, Reads, Sends as
 use Rattle.pm_world.specs.{Below.Below, Job.asked_by, Legal.frame_of, Setup.setup_of, declared.event.Arrival.Arrival}
 use Rattle.pm_world.specs.{declared.event.Arrival.TheVariants.Whole, declared.event.Back.Back, declared.event.Event.Event}
 use Rattle.pm_world.specs.{declared.way.Way.Way}
-use Rattle.pm_world.specs.GoodBus.{IsRead, IsWritten, WasWritten, held_after, stage_after, delivers_whole, is_beside}
+use Rattle.pm_world.specs.GoodBus.{IsRead, IsWritten, WasWritten, word_held_after, stage_after, delivers_whole, is_beside}
 use Rattle.pm_world.specs.GoodTurns.{ComeWhole, ComesWhole, Ends, GoesOn, OpenJobsEnd, Turn, Turns, good_end, is_taken, mode_turn}
-use Rattle.pm_world.specs.GoodTurns.{order_end, read_turn, send_turn, turn_of}
+use Rattle.pm_world.specs.GoodTurns.{order_end_holding, read_turn, send_turn, turn_of}
 use Rattle.pm_world.specs.Honest.{IsSpelled, WentThrough, honest, is_whole, sent_by}
 use Rattle.pm_world.specs.Life.{life, now, state_of, AreTaken}
 use Rattle.pm_world.specs.State.{State, asked, HasWord, event_limit, next}
-use Rattle.pm_world.specs.Way.{HasGone, WasSent, WasUndisturbed, begun, delivered_on, exchanged_on, finished_on, goes_on, hears_whole}
-use Rattle.pm_world.specs.Way.{read_on, way_after, way_of}
+use Rattle.pm_world.specs.Way.{HasGone, WasSent, WasUndisturbed, begun, delivered_on, exchanged_on, finished_on, way_goes_on, hears_whole}
+use Rattle.pm_world.specs.Way.{way_read_on, way_after, way_of}
 use Rattle.pm_world.specs.declared.event.Back.TheVariants as back
 use Rattle.pm_world.specs.declared.event.Event.TheVariants.{Deliver, Finish, Exchange, OrderMicro, Reading, RestartDevice, RestartHost}
 use Rattle.pm_world.specs.declared.way.Way.TheVariants.{Off, Sent, Written, Through}
@@ -104,12 +104,12 @@ pass-left laws {config = config} {passes = passes} {events = events} {pass = pas
 read-turns : Below → {config : Config} {passes : ℕ} {before after : List Event} {cell : Cell} {word pass : ℕ} →
     IsLived config passes before → IsLived config passes after →
     (now config passes before).host.stage ≡ Some (Reads cell word pass) → IsRead config passes (cell_read cell) before after →
-    Turns config passes after (read_turn passes cell word pass (held_after config passes before cell))
+    Turns config passes after (read_turn passes cell word pass (word_held_after config passes before cell))
 read-turns laws {config = config} {passes = passes} {before = before} {after = after} {cell = cell} {word = word} {pass = pass} lived all
     stage read = go (eqb held word) (eqb (pass + 1) passes) refl refl
   where
     held : ℕ
-    held = held_after config passes before cell
+    held = word_held_after config passes before cell
 
     go : (same last : Bool) → eqb held word ≡ same → eqb (pass + 1) passes ≡ last →
         Turns config passes after (cond same (Ends Done) (cond last (Ends (Differs held)) (GoesOn (Writes cell word (pass + 1)))))
@@ -208,7 +208,7 @@ done-anyway true end = refl
 done-anyway false end = refl
 
 -- an order whose cell holds its word is done
-held-done : (takes : Bool) (word held : ℕ) → held ≡ word → order_end takes word held ≡ Done
+held-done : (takes : Bool) (word held : ℕ) → held ≡ word → order_end_holding takes word held ≡ Done
 held-done takes word held e = cond-true (eqb held word) _ _ (eq-eqb held word e)
 
 -- the write of an order
@@ -216,45 +216,47 @@ write-keeps : {config : Config} {passes : ℕ} {cell : Cell} {word pass : ℕ} {
     WasWritten config passes cell word pass acked before after →
     good_end config passes after (Reads cell word pass) ≡ good_end config passes before (Writes cell word pass)
 write-keeps {config = config} {passes = passes} {cell = cell} {word = word} {pass = pass} {before = before} {after = after} w =
-    go (is_allowed (held_after config passes before Protect) (cell_code cell)) refl
+    go (is_allowed (word_held_after config passes before Protect) (cell_code cell)) refl
   where
     left : Bool
     left = not (eqb (pass + 1) passes)
 
-    go : (allowed : Bool) → is_allowed (held_after config passes before Protect) (cell_code cell) ≡ allowed →
-        order_end (left && is_allowed (held_after config passes after Protect) (cell_code cell)) word (held_after config passes after cell)
-        ≡ order_end allowed word (held_after config passes before cell)
+    go : (allowed : Bool) → is_allowed (word_held_after config passes before Protect) (cell_code cell) ≡ allowed →
+        order_end_holding (left && is_allowed (word_held_after config passes after Protect) (cell_code cell)) word
+        (word_held_after config passes after cell)
+        ≡ order_end_holding allowed word (word_held_after config passes before cell)
     go true e =
-        held-done (left && is_allowed (held_after config passes after Protect) (cell_code cell)) word (held_after config passes after cell)
+        held-done (left && is_allowed (word_held_after config passes after Protect) (cell_code cell)) word
+        (word_held_after config passes after cell)
         (w.taken e)
-        ∙ sym (done-anyway (eqb (held_after config passes before cell) word) (Differs (held_after config passes before cell)))
+        ∙ sym (done-anyway (eqb (word_held_after config passes before cell) word) (Differs (word_held_after config passes before cell)))
     go false e =
-        ap (λ (ws : Words). order_end (left && is_allowed (word_at ws Protect) (cell_code cell)) word (word_at ws cell)) (w.kept e)
-        ∙ ap (λ b. order_end b word (held_after config passes before cell))
-        (and_right left (is_allowed (held_after config passes before Protect) (cell_code cell)) e)
+        ap (λ (ws : Words). order_end_holding (left && is_allowed (word_at ws Protect) (cell_code cell)) word (word_at ws cell)) (w.kept e)
+        ∙ ap (λ b. order_end_holding b word (word_held_after config passes before cell))
+        (and_right left (is_allowed (word_held_after config passes before Protect) (cell_code cell)) e)
 
 -- the read of an order
 read-keeps : (config : Config) (passes : ℕ) (cell : Cell) (word pass : ℕ) (before after : List Event) →
     (now config passes after).device.words ≡ (now config passes before).device.words →
-    Keeps config passes before after (Reads cell word pass) (read_turn passes cell word pass (held_after config passes before cell))
+    Keeps config passes before after (Reads cell word pass) (read_turn passes cell word pass (word_held_after config passes before cell))
 read-keeps config passes cell word pass before after words =
     go (eqb held word) (eqb (pass + 1) passes) refl refl
   where
     held : ℕ
-    held = held_after config passes before cell
+    held = word_held_after config passes before cell
 
     allowed : Bool
-    allowed = is_allowed (held_after config passes before Protect) (cell_code cell)
+    allowed = is_allowed (word_held_after config passes before Protect) (cell_code cell)
 
     go : (same last : Bool) → eqb held word ≡ same → eqb (pass + 1) passes ≡ last →
         Keeps config passes before after (Reads cell word pass)
         (cond same (Ends Done) (cond last (Ends (Differs held)) (GoesOn (Writes cell word (pass + 1)))))
     go true last s l =
         sym (held-done (not (eqb (pass + 1) passes) && allowed) word held (eqb-true held word s))
-    go false true s l = sym (ap (λ b. order_end (not b && allowed) word held) l ∙ cond-false (eqb held word) Done (Differs held) s)
+    go false true s l = sym (ap (λ b. order_end_holding (not b && allowed) word held) l ∙ cond-false (eqb held word) Done (Differs held) s)
     go false false s l =
-        ap (λ (ws : Words). order_end (is_allowed (word_at ws Protect) (cell_code cell)) word (word_at ws cell)) words
-        ∙ sym (ap (λ b. order_end (not b && allowed) word held) l)
+        ap (λ (ws : Words). order_end_holding (is_allowed (word_at ws Protect) (cell_code cell)) word (word_at ws cell)) words
+        ∙ sym (ap (λ b. order_end_holding (not b && allowed) word held) l)
 
 -- the read of VOUT_MODE
 mode-keeps : (config : Config) (passes : ℕ) (before after : List Event) (output tries : ℕ) (mode : Result VoutMode TableFault) →
@@ -312,7 +314,7 @@ fewer config passes before s acked (Asks (Coefficients output) tries) same is =
     let left = subst (λ n. tries < n) same is.left in omega (arith, left)
 fewer config passes before s acked (Writes cell word pass) same is = let left = subst (λ n. pass < n) same is.left in omega (arith, left)
 fewer config passes before s acked (Reads cell word pass) same is =
-    read-fewer passes cell word pass (held_after config passes before cell) (subst (λ n. pass < n) same is.left)
+    read-fewer passes cell word pass (word_held_after config passes before cell) (subst (λ n. pass < n) same is.left)
 fewer config passes before s acked (SendsCommand command tries) same is =
     send-fewer passes command tries acked (subst (λ n. tries < n) same is.left)
 
@@ -619,7 +621,8 @@ module _ (laws : Below) (config : Config) (passes : ℕ) where
       let t = now config passes (order ∷ before) in
       let same = now-next laws config passes before order lived in
       let stage = ap (λ (u : State). u.host.stage) same ∙ order-stage s order cell word asks in
-      ap (λ b. cond b (begun t t.host.stage) (goes_on t order (way_of config passes before))) (asks-one s order (host.Order cell word) asks)
+      ap (λ b. cond b (begun t t.host.stage) (way_goes_on t order (way_of config passes before)))
+      (asks-one s order (host.Order cell word) asks)
       ∙ (ap (begun t) stage
       ∙ ap (λ b. cond b (Sent cell word false) Off)
       (ap (λ (h : Held). is_allowed (word_at h.words Protect) (cell_code cell))
@@ -635,7 +638,7 @@ module _ (laws : Below) (config : Config) (passes : ℕ) where
       way_of config passes events ≡ Sent cell word true →
       way_of config passes (Exchange Whole back.Whole ∷ Finish acked ∷ events) ≡ Through cell word
   unfolding way_of
-  way-through events cell word acked sent = ap (λ way. read_on (finished_on way)) sent
+  way-through events cell word acked sent = ap (λ way. way_read_on (finished_on way)) sent
 
 -- on its way exactly where the events have that form
 pub sent-by : Below → {config : Config} {passes : ℕ} {events : List Event} {cell : Cell} {word : ℕ} {whole : Bool} →

@@ -37,7 +37,7 @@ use Rattle.pm_world.specs.Lemmas.{now-config, in-format}
 use Rattle.pm_world.specs.Life.{now}
 use Rattle.pm_world.specs.Limited.{AreGuarded, MaxAtMost, MinAtLeast, OrdersWithin, OwnWithin, StartsWithin, StaysLimited, WordWithin}
 use Rattle.pm_world.specs.Limited.{commands}
-use Rattle.pm_world.specs.Retelling.{CommandsOwn, IsOwnWord, told}
+use Rattle.pm_world.specs.Retelling.{CommandsOwn, IsOwnWord, steps_of_event}
 use Rattle.pm_world.specs.State.{asked}
 use Rattle.pm_world.proofs.Events.{IsLived, lived-before, newest}
 use Rattle.pm_world.proofs.Formats.{formats-agree}
@@ -197,8 +197,8 @@ one-newer config passes event before output bounds newest register word voltage 
       let same : was.event ≡ event = cc in
       let rest : was.before ≡ before = cc in
       inr (newest register word voltage (told-asked config passes before event (Out output register) word
-      (subst (λ e. told config passes before e ≡ Accept (pending.Order (Out output register) word) ∷ []) same
-      (subst (λ b. told config passes b was.event ≡ Accept (pending.Order (Out output register) word) ∷ []) rest was.orders))))
+      (subst (λ e. steps_of_event config passes before e ≡ Accept (pending.Order (Out output register) word) ∷ []) same
+      (subst (λ b. steps_of_event config passes b was.event ≡ Accept (pending.Order (Out output register) word) ∷ []) rest was.orders))))
   go (newer ∷ later) is =
       let rest : before ≡ later ++ was.event ∷ was.before = cc in
       inl (inr (record {

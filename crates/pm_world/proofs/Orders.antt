@@ -21,7 +21,7 @@ use Rattle.pm_frame.specs.Layout.{IsWrite, is_read_message, fits_layout}
 use Rattle.pm_model.specs.declared.order_machine.PendingJob.{PendingJob}
 use Rattle.pm_model.specs.Commanded.{selected_register, selected, is_cut, commanded}
 use Rattle.pm_model.specs.OrderMachine.{words_taken, store_taken, Step, Accept, Take, End, Back, IsRun, machine_of, CanAccept, CanTake}
-use Rattle.pm_model.specs.OrderMachine.{IsOwnWord as IsMachineOwn, IsAccepted}
+use Rattle.pm_model.specs.OrderMachine.{IsOwnWordOfMachine as IsMachineOwn, IsAccepted}
 use Rattle.pm_model.specs.Settings.{Words, with_outputs, with_word, word_at, Settings, AreWords}
 use Rattle.pm_model.specs.declared.order_machine.PendingJob.TheVariants as pending
 use Rattle.pm_model.specs.declared.order_machine.PendingJob.TheVariants.{Order, Store, Restore}
@@ -29,16 +29,17 @@ use Rattle.pm_device.specs.{declared.config.Config.Config, declared.converter.En
 use Rattle.pm_device.specs.Effect as device
 use Rattle.pm_device.specs.Effect.{Hearing, Kept, kept_in, kept_after}
 use Rattle.pm_device.specs.Held.{Held, value_for}
-use Rattle.pm_device.specs.History.{next as device_next, start_of, now as device_now}
+use Rattle.pm_device.specs.History.{device_next, start_of, device_now}
 use Rattle.pm_device.specs.Start.{IsSound, start_word, start_words}
 use Rattle.pm_host.specs.{Lemmas.reads_question, Marks.Good, Question.question_message, Sound.IsStage, declared.command.Command.Command}
 use Rattle.pm_host.specs.{declared.job.JobEnd.JobEnd, declared.question.Question.Question, declared.stage.Stage.Stage}
 use Rattle.pm_host.specs.Answers.{good_payload, good_word, word_in}
 use Rattle.pm_host.specs.Messages.{cell_read, cell_write, command_message, register_payload}
-use Rattle.pm_host.specs.Now.{now as host_now, stage_of, job_stage}
+use Rattle.pm_host.specs.Now.{host_now, stage_of, job_stage}
 use Rattle.pm_host.specs.Refusals.{is_busy, asking_fault, cell_fault, order_fault, job_fault, IsSetup}
-use Rattle.pm_host.specs.Summary.{Summary, another, learned, read_back, mode_taken, answer_taken, asked, finished, answered, marked, writes}
-use Rattle.pm_host.specs.Summary.{ends, goes_on, sends as summary_sends, next as host_next, sending_in, stage_message, idle}
+use Rattle.pm_host.specs.Summary.{Summary, another, learned, read_back, mode_taken, answer_taken, question_answered, finished}
+use Rattle.pm_host.specs.Summary.{request_answered, marked, writes}
+use Rattle.pm_host.specs.Summary.{ends, goes_on_at, sends as summary_sends, host_next, sending_in, stage_message, idle}
 use Rattle.pm_host.specs.Transcript as host
 use Rattle.pm_host.specs.declared.command.Command.TheVariants.{ClearFaults, StoreUserAll, RestoreUserAll}
 use Rattle.pm_host.specs.declared.job.JobEnd.TheVariants.{Done, Differs, Unknown}
@@ -50,10 +51,11 @@ use Rattle.pm_world.specs.Legal.{ending_of, frame_of, heard_bytes, heard_ending,
 use Rattle.pm_world.specs.Life.{life, now, state_of}
 use Rattle.pm_world.specs.Moves.{JobTakes, MovesBy, MovesByTheOpenJob, StoreIsOfOneMoment, StoresBy, came_back, ordered, restored, stored}
 use Rattle.pm_world.specs.Moves.{before_store, is_store, store_at, words_at}
-use Rattle.pm_world.specs.Retelling.{command_pending, pending_of, open_pending, pending_code, taken_by, takes_frame, start_settings}
-use Rattle.pm_world.specs.Retelling.{accepts, ends_between, told, told_beside, retold, takes, taken_at, IsOrderRun, WasOrdered, IsOwnWord}
+use Rattle.pm_world.specs.Retelling.{command_pending, pending_of, open_pending, pending_code, job_taken_by, takes_frame, start_settings}
+use Rattle.pm_world.specs.Retelling.{accepts, ends_between, steps_of_event, told_beside, retold, takes, taken_at, IsOrderRun, WasOrdered}
+use Rattle.pm_world.specs.Retelling.{IsOwnWord}
 use Rattle.pm_world.specs.Retelling.{CommandsOwn, pending_message}
-use Rattle.pm_world.specs.Setup.{setup_of, start}
+use Rattle.pm_world.specs.Setup.{setup_of, world_start}
 use Rattle.pm_world.specs.State.{State, rule, device_after, host_after, delivered, exchanged, delivery_cause, exchange_cause, hearing_cause}
 use Rattle.pm_world.specs.State.{return_cause, asked as state_asked, event_cause, next}
 use Rattle.pm_world.specs.declared.cause.Cause.TheVariants.{NotBetrayed, WrongKind}
@@ -116,7 +118,7 @@ finished-order s stage acked = inl refl
 -- a question that is asked again is no order
 another-order : (s : Summary) (question : Question) (tries : ℕ) → stage_pending (another s question tries).after.stage ≡ None
 another-order s question tries = go (eqb (tries + 1) s.setup.passes) where
-  go : (b : Bool) → stage_pending (cond b (ends s Unknown) (goes_on s (Asks question (tries + 1)))).after.stage ≡ None
+  go : (b : Bool) → stage_pending (cond b (ends s Unknown) (goes_on_at s (Asks question (tries + 1)))).after.stage ≡ None
   go true = refl
   go false = refl
 
@@ -135,7 +137,7 @@ taken-order s (Coefficients output) payload = go (result_ok (shape_in Direct (co
 
 -- what came back leaves an order open, or ends it
 pub answered-order : (s : Summary) (stage : Option Stage) (bytes : List ℕ) →
-    Goes (stage_pending stage) (stage_pending (answered s stage bytes).after.stage)
+    Goes (stage_pending stage) (stage_pending (request_answered s stage bytes).after.stage)
 answered-order s (Some (Reads cell word pass)) bytes = go (good_word s.setup.addr cell bytes) where
   last : (b : Bool) (t : Summary) (e : JobEnd) →
       Goes (Some (pending.Order cell word)) (stage_pending (cond b (ends t e) (writes t cell word (pass + 1))).after.stage)
@@ -152,7 +154,7 @@ answered-order s (Some (Reads cell word pass)) bytes = go (good_word s.setup.add
   go None = last (eqb (pass + 1) s.setup.passes) s Unknown
   go (Some read) = same (eqb read word) (eqb (pass + 1) s.setup.passes) (marked s (Good cell read)) (Differs read)
 answered-order s (Some (Asks question tries)) bytes = go (good_payload s.setup.addr (question_message question) bytes) where
-  go : (good : Option (List ℕ)) → Goes None (stage_pending (asked s question tries good).after.stage)
+  go : (good : Option (List ℕ)) → Goes None (stage_pending (question_answered s question tries good).after.stage)
   go None = inr (another-order s question tries)
   go (Some payload) = inr (taken-order s question payload)
 answered-order s stage bytes = inl refl
@@ -301,7 +303,7 @@ both-so false false job = refl
 
 -- what takes is the job that is open
 pub taken-open : (addr : ℕ) (words : Words) (arrival : Arrival) (open_one : Option PendingJob) (job : PendingJob) →
-    taken_by addr words arrival open_one ≡ Some job → open_one ≡ Some job
+    job_taken_by addr words arrival open_one ≡ Some job → open_one ≡ Some job
 taken-open addr words arrival None job e = cc
 taken-open addr words arrival (Some one) job e = go (takes_frame addr words arrival one) e where
   go : (b : Bool) → cond b (Some one) None ≡ Some job → Some one ≡ Some job
@@ -323,11 +325,11 @@ stage-kept : Below → (s : State) (arrival : Arrival) (stage : Option Stage) (m
     is_legal_hearing (frame_of s.device.config.addr message) (heard_bytes (frame_of s.device.config.addr message) arrival)
     (ending_of Stop arrival) ≡ true →
     kept_after s.device (Hearing (heard_bytes (frame_of s.device.config.addr message) arrival) (ending_of Stop arrival))
-    ≡ kept_taken s.device (taken_by s.device.config.addr s.device.words arrival (stage_pending stage))
+    ≡ kept_taken s.device (job_taken_by s.device.config.addr s.device.words arrival (stage_pending stage))
 stage-kept laws s arrival None message outputs is e fits writes legal = cc
 stage-kept laws s arrival (Some (Writes cell word pass)) message outputs is e fits writes legal =
     subst (λ m. kept_after s.device (Hearing (heard_bytes (frame_of s.device.config.addr m) arrival) (ending_of Stop arrival))
-    ≡ kept_taken s.device (taken_by s.device.config.addr s.device.words arrival (Some (pending.Order cell word))))
+    ≡ kept_taken s.device (job_taken_by s.device.config.addr s.device.words arrival (Some (pending.Order cell word))))
     (some-is (cell_write cell word) message e)
     (heard-kept laws s.device (cell_write cell word) arrival _ (ap is_read_message same ∙ writes) (ap fits_layout same ∙ fits)
     (subst (λ m. is_legal_hearing (frame_of s.device.config.addr m) (heard_bytes (frame_of s.device.config.addr m) arrival)
@@ -339,7 +341,7 @@ stage-kept laws s arrival (Some (Writes cell word pass)) message outputs is e fi
     same = some-is (cell_write cell word) message e
 stage-kept laws s arrival (Some (Sends sent tries)) message outputs is e fits writes legal =
     subst (λ m. kept_after s.device (Hearing (heard_bytes (frame_of s.device.config.addr m) arrival) (ending_of Stop arrival))
-    ≡ kept_taken s.device (taken_by s.device.config.addr s.device.words arrival (command_pending sent)))
+    ≡ kept_taken s.device (job_taken_by s.device.config.addr s.device.words arrival (command_pending sent)))
     same
     (heard-kept laws s.device (command_message sent) arrival _ (ap is_read_message same ∙ writes) (ap fits_layout same ∙ fits)
     (subst (λ m. is_legal_hearing (frame_of s.device.config.addr m) (heard_bytes (frame_of s.device.config.addr m) arrival)
@@ -353,7 +355,7 @@ stage-kept laws s arrival (Some (Sends sent tries)) message outputs is e fits wr
     by_command : (sent : Command) →
         where_so (is_whole (frame_of s.device.config.addr (command_message sent)) arrival)
         (option_and_then (λ job. where_so (allows s.device job) (Some job)) (command_pending sent))
-        ≡ taken_by s.device.config.addr s.device.words arrival (command_pending sent)
+        ≡ job_taken_by s.device.config.addr s.device.words arrival (command_pending sent)
     by_command (ClearFaults output) = refl
     by_command StoreUserAll = both-so _ _ pending.Store
     by_command RestoreUserAll = both-so _ _ pending.Restore
@@ -386,13 +388,13 @@ event-stays laws held event e = event-took laws held event None e
 pub delivered-takes : Below → (s : State) (arrival : Arrival) (sending : Option Message) → Sending s →
     sending_in s.host ≡ sending → delivery_cause s arrival sending ≡ None →
     TookJob s.device (device_after s.device (delivered s arrival sending).heard)
-    (taken_by s.device.config.addr s.device.words arrival (stage_pending s.host.stage))
+    (job_taken_by s.device.config.addr s.device.words arrival (stage_pending s.host.stage))
 delivered-takes laws s arrival None is e h = cc
 delivered-takes laws s arrival (Some message) is e h =
     event-took laws s.device
     (Hearing (heard_bytes (frame_of s.host.setup.addr message) arrival) (heard_ending message arrival)) _
     (subst (λ a. kept_after s.device (Hearing (heard_bytes (frame_of a message) arrival) (heard_ending message arrival))
-    ≡ kept_taken s.device (taken_by s.device.config.addr s.device.words arrival (stage_pending s.host.stage))) (sym is.addr)
+    ≡ kept_taken s.device (job_taken_by s.device.config.addr s.device.words arrival (stage_pending s.host.stage))) (sym is.addr)
     (ap (λ n. kept_after s.device (Hearing (heard_bytes (frame_of s.device.config.addr message) arrival) n)) (sym ending)
     ∙ stage-kept laws s arrival s.host.stage message is.outputs is.stage e (is.fits message e) writes legal))
   where
@@ -513,25 +515,25 @@ sends laws config passes events lived = record {
 pub delivered-took : Below → (config : Config) (passes : ℕ) (before : List Event) (arrival : Arrival) → IsLived config passes before →
     event_cause (now config passes before) (Deliver arrival) ≡ None →
     TookJob (now config passes before).device (next (now config passes before) (Deliver arrival)).device
-    (taken_by config.addr (now config passes before).device.words arrival (stage_pending (now config passes before).host.stage))
+    (job_taken_by config.addr (now config passes before).device.words arrival (stage_pending (now config passes before).host.stage))
 unfolding next
 delivered-took laws config passes before arrival lived free =
     let s = now config passes before in
     subst (λ (k : Config). TookJob s.device (next s (Deliver arrival)).device
-    (taken_by k.addr s.device.words arrival (stage_pending s.host.stage))) (now-config config passes before)
+    (job_taken_by k.addr s.device.words arrival (stage_pending s.host.stage))) (now-config config passes before)
     (delivered-takes laws s arrival (sending_in s.host) (sends laws config passes before lived) refl free)
 
 -- an event that asks for a job is told as the order, store or restore that it is
 pub asked-told : (config : Config) (passes : ℕ) (before : List Event) (event : Event) (job : host.Job) →
-    state_asked (now config passes before) event ≡ Some job → told config passes before event ≡ accepts (pending_of job)
-unfolding told
+    state_asked (now config passes before) event ≡ Some job → steps_of_event config passes before event ≡ accepts (pending_of job)
+unfolding steps_of_event
 asked-told config passes before event job is =
     ap (λ o. option_map_or (λ j. accepts (pending_of j)) o (told_beside config passes before event)) is
 
 -- any other is told as what it does
 beside-told : (config : Config) (passes : ℕ) (before : List Event) (event : Event) →
-    state_asked (now config passes before) event ≡ None → told config passes before event ≡ told_beside config passes before event
-unfolding told
+    state_asked (now config passes before) event ≡ None → steps_of_event config passes before event ≡ told_beside config passes before event
+unfolding steps_of_event
 beside-told config passes before event is =
     ap (λ o. option_map_or (λ j. accepts (pending_of j)) o (told_beside config passes before event)) is
 
@@ -548,7 +550,7 @@ record Follows (config : Config) (passes : ℕ) (before : List Event) (event : E
 
 -- the steps go on by those that the event is told as
 retold-on : (config : Config) (passes : ℕ) (before : List Event) (event : Event) (new : List Step) →
-    told config passes before event ≡ new → retold config passes (event ∷ before) ≡ new ++ retold config passes before
+    steps_of_event config passes before event ≡ new → retold config passes (event ∷ before) ≡ new ++ retold config passes before
 unfolding retold
 retold-on config passes before event new e = ap (λ (x : List Step). x ++ retold config passes before) e
 
@@ -582,7 +584,7 @@ pends {config = config} {passes = passes} {before = before} f = f.run.job_is ∙
 
 -- nothing is told: words, store and job stay
 stays : (config : Config) (passes : ℕ) (before : List Event) (event : Event) → (f : Follows config passes before event) →
-    told config passes before event ≡ [] →
+    steps_of_event config passes before event ≡ [] →
     Stays (now config passes before).device (next (now config passes before) event).device →
     stage_pending (next (now config passes before) event).host.stage ≡ stage_pending (now config passes before).host.stage →
     Runs config passes (event ∷ before)
@@ -595,7 +597,7 @@ stays config passes before event f none same job = runs-by (retold-on config pas
 
 -- a job is accepted
 accepted : Below → {config : Config} {passes : ℕ} {before : List Event} {event : Event} (job : PendingJob) →
-    (f : Follows config passes before event) → told config passes before event ≡ Accept job ∷ [] →
+    (f : Follows config passes before event) → steps_of_event config passes before event ≡ Accept job ∷ [] →
     Stays (now config passes before).device (next (now config passes before) event).device →
     stage_pending (next (now config passes before) event).host.stage ≡ Some job →
     stage_pending (now config passes before).host.stage ≡ None →
@@ -619,7 +621,7 @@ accepted laws {config = config} {passes = passes} {before = before} {event = eve
 
 -- a job ends
 ended : (config : Config) (passes : ℕ) (before : List Event) (event : Event) → (f : Follows config passes before event) →
-    told config passes before event ≡ End ∷ [] →
+    steps_of_event config passes before event ≡ End ∷ [] →
     Stays (now config passes before).device (next (now config passes before) event).device →
     stage_pending (next (now config passes before) event).host.stage ≡ None →
     Runs config passes (event ∷ before)
@@ -651,7 +653,7 @@ same-taken w s j = (cc, cc)
 
 -- the pending job takes
 took : {config : Config} {passes : ℕ} {before : List Event} {arrival : Arrival} (job : PendingJob) →
-    (f : Follows config passes before (Deliver arrival)) → told config passes before (Deliver arrival) ≡ Take ∷ [] →
+    (f : Follows config passes before (Deliver arrival)) → steps_of_event config passes before (Deliver arrival) ≡ Take ∷ [] →
     TookJob (now config passes before).device (next (now config passes before) (Deliver arrival)).device (Some job) →
     stage_pending (now config passes before).host.stage ≡ Some job →
     stage_pending (next (now config passes before) (Deliver arrival)).host.stage ≡ stage_pending (now config passes before).host.stage →
@@ -678,7 +680,8 @@ ends-none (Some job) q e some = ap (λ o. ends_between (Some job) o) e
 
 -- the run goes on over an exchange, and over the end of a write
 gone-on : (config : Config) (passes : ℕ) (before : List Event) (event : Event) (f : Follows config passes before event) →
-    told config passes before event ≡ ends_between (open_pending config passes before) (open_pending config passes (event ∷ before)) →
+    steps_of_event config passes before event
+    ≡ ends_between (open_pending config passes before) (open_pending config passes (event ∷ before)) →
     Stays (now config passes before).device (next (now config passes before) event).device →
     Goes (stage_pending (now config passes before).host.stage) (stage_pending (next (now config passes before) event).host.stage) →
     Runs config passes (event ∷ before)
@@ -704,12 +707,12 @@ gone-on config passes before event f is_told same (inr over) = go (open_pending 
 delivered-on : {config : Config} {passes : ℕ} {before : List Event} {arrival : Arrival} →
     (f : Follows config passes before (Deliver arrival)) →
     TookJob (now config passes before).device (next (now config passes before) (Deliver arrival)).device
-    (taken_by config.addr (now config passes before).device.words arrival (stage_pending (now config passes before).host.stage)) →
+    (job_taken_by config.addr (now config passes before).device.words arrival (stage_pending (now config passes before).host.stage)) →
     stage_pending (next (now config passes before) (Deliver arrival)).host.stage ≡ stage_pending (now config passes before).host.stage →
     Runs config passes (Deliver arrival ∷ before)
 unfolding told_beside taken_at
 delivered-on {config = config} {passes = passes} {before = before} {arrival = arrival} f by stay =
-    go (taken_by config.addr words arrival stage) refl by
+    go (job_taken_by config.addr words arrival stage) refl by
   where
     words : Words
     words = (now config passes before).device.words
@@ -718,13 +721,13 @@ delivered-on {config = config} {passes = passes} {before = before} {arrival = ar
     stage = stage_pending (now config passes before).host.stage
 
     told_so : (o : Option PendingJob) →
-        taken_by config.addr (now config passes before).device.words arrival (stage_pending (now config passes before).host.stage) ≡ o →
-        told config passes before (Deliver arrival) ≡ takes o
+        job_taken_by config.addr (now config passes before).device.words arrival (stage_pending (now config passes before).host.stage) ≡ o →
+        steps_of_event config passes before (Deliver arrival) ≡ takes o
     told_so o e = beside-told config passes before (Deliver arrival) refl
-        ∙ ap takes (ap (taken_by config.addr words arrival) (open_pending-is config passes before) ∙ e)
+        ∙ ap takes (ap (job_taken_by config.addr words arrival) (open_pending-is config passes before) ∙ e)
 
     go : (o : Option PendingJob) →
-        taken_by config.addr (now config passes before).device.words arrival (stage_pending (now config passes before).host.stage) ≡ o →
+        job_taken_by config.addr (now config passes before).device.words arrival (stage_pending (now config passes before).host.stage) ≡ o →
         TookJob (now config passes before).device (next (now config passes before) (Deliver arrival)).device o →
         Runs config passes (Deliver arrival ∷ before)
     go None e h = stays config passes before (Deliver arrival) f (told_so None e) h stay
@@ -816,7 +819,7 @@ one laws config passes before event lived f = go (state_asked (now config passes
 
 -- nothing has happened
 first-run : Below → (config : Config) (passes : ℕ) → IsSetup (setup_of config passes) → Runs config passes []
-unfolding machine_of retold open_pending life host.open_job host.end_of start start_of
+unfolding machine_of retold open_pending life host.open_job host.last_job_end world_start start_of
 first-run laws config passes made = record {
   run = tt;
   words_are = sym (ap (λ (s : State). s.device.words) (now-nil laws config passes made));
@@ -877,8 +880,9 @@ told-nothing config passes before event cell word h = absurd (none (Ordered cell
 
 -- only orders are told as accepted
 told-accept : (config : Config) (passes : ℕ) (before : List Event) (event : Event) (cell : Cell) (word : ℕ) →
-    Contains (told config passes before event) (Ordered cell word) → told config passes before event ≡ Ordered cell word ∷ []
-unfolding told
+    Contains (steps_of_event config passes before event) (Ordered cell word) → steps_of_event config passes before event
+    ≡ Ordered cell word ∷ []
+unfolding steps_of_event
 told-accept config passes before event cell word h = go (state_asked (now config passes before) event) h where
   by_job : (job : host.Job) → Contains (accepts (pending_of job)) (Ordered cell word) → accepts (pending_of job) ≡ Ordered cell word ∷ []
   by_job (host.Order c w) h = ap (λ (s : Step). s ∷ []) (single (Ordered c w) (Ordered cell word) h)
@@ -913,7 +917,7 @@ retold-ordered : (config : Config) (passes : ℕ) (events : List Event) (cell : 
 unfolding retold
 retold-ordered config passes [] cell word h = absurd (none (Ordered cell word) h)
 retold-ordered config passes (event ∷ before) cell word h =
-    elim (Contains-append_cases (told config passes before event) (retold config passes before) (Ordered cell word) h) [
+    elim (Contains-append_cases (steps_of_event config passes before event) (retold config passes before) (Ordered cell word) h) [
       | inl now_told ↦ record
           { later = []; event = event; before = before; is = refl; orders = told-accept config passes before event cell word now_told }
       | inr earlier ↦ later-ordered config passes event before cell word (retold-ordered config passes before cell word earlier)
@@ -1010,7 +1014,7 @@ went-beside : Below → (config : Config) (passes : ℕ) (before : List Event) (
 unfolding next taken_at
 went-beside laws config passes before (Deliver arrival) lived free is =
     inr (subst (λ o. TookJob (now config passes before).device (next (now config passes before) (Deliver arrival)).device
-    (taken_by config.addr (now config passes before).device.words arrival o)) (sym (open_pending-is config passes before))
+    (job_taken_by config.addr (now config passes before).device.words arrival o)) (sym (open_pending-is config passes before))
     (delivered-took laws config passes before arrival lived free))
 went-beside laws config passes before (Exchange arrival back) lived free is =
     inr (exchanged-stays laws (now config passes before) arrival back (sending_in (now config passes before).host)
@@ -1060,7 +1064,7 @@ takes-by config passes before arrival job is = go (open_pending config passes be
   same false one e = cc
 
   go : (o : Option PendingJob) → open_pending config passes before ≡ o →
-      taken_by config.addr (now config passes before).device.words arrival o ≡ Some job → JobTakes config passes before arrival job
+      job_taken_by config.addr (now config passes before).device.words arrival o ≡ Some job → JobTakes config passes before arrival job
   go None e h = cc
   go (Some one) e h =
       let found = same (takes_frame config.addr words arrival one) one h in
@@ -1077,7 +1081,7 @@ takes-back config passes before arrival job t =
     let words = (now config passes before).device.words in
     let whole = is_whole (frame_of config.addr (pending_message job)) arrival in
     let allowed = is_allowed (word_at words Protect) (pending_code job) in
-    ap (taken_by config.addr words arrival) t.opened
+    ap (job_taken_by config.addr words arrival) t.opened
     ∙ (ap (λ b. cond (b && allowed) (Some job) None) t.whole ∙ ap (λ b. cond (true && b) (Some job) None) t.allowed)
 
 -- which leaves what it makes of the words and the store
@@ -1237,7 +1241,7 @@ holds-more laws config passes event before lived so_far output register here =
 
 -- at the start
 holds-first : Below → (config : Config) (passes : ℕ) → IsSetup (setup_of config passes) → Holds config passes [] []
-unfolding start start_of
+unfolding world_start start_of
 holds-first laws config passes made output register here =
     let is = now-nil laws config passes made in
     ap (λ (s : State). word_at s.device.store (Out output register)) is

@@ -32,13 +32,13 @@ use Rattle.pm_device.specs.declared.converter.Ending.TheVariants.{Restart, Stop}
 use Rattle.pm_host.specs.{Possible.has_room, declared.fault.HostFault.HostFault, declared.knowledge.Possible.TheVariants.Any}
 use Rattle.pm_host.specs.Known.{all_any, nothing_known}
 use Rattle.pm_host.specs.Refusals.{IsSetup, order_fault}
-use Rattle.pm_host.specs.Summary.{Summary, next as host_next, possible_at, sending_in, start}
+use Rattle.pm_host.specs.Summary.{Summary, host_next, possible_at, sending_in, start}
 use Rattle.pm_host.specs.Transcript as host
-use Rattle.pm_host.specs.Transcript.{end_of, open_job}
+use Rattle.pm_host.specs.Transcript.{last_job_end, open_job}
 use Rattle.pm_host.specs.declared.fault.HostFault.TheVariants.{BadWord, TooUncertain, UnknownOutput}
 use Rattle.pm_world.specs.{Confirmed.restarts_converter, Honest.is_whole, declared.event.Arrival.TheVariants.Whole}
 use Rattle.pm_world.specs.{declared.event.Event.Event}
-use Rattle.pm_world.specs.Job.{job_of, refusal_of}
+use Rattle.pm_world.specs.Job.{job_of, refusal_of_event}
 use Rattle.pm_world.specs.Laws.{LivesAreFollowed, LivesAreOrders}
 use Rattle.pm_world.specs.Legal.{frame_of, is_legal_hearing}
 use Rattle.pm_world.specs.Lemmas.{entries-more, write-heard}
@@ -47,9 +47,10 @@ use Rattle.pm_world.specs.Lived.{EventsAreLived, IsLived}
 use Rattle.pm_world.specs.Moves.{JobTakes, SettingsMoveByTheOpenJob, store_at, words_at}
 use Rattle.pm_world.specs.Parts.{IsPart, PartsAreReached, StoredConfigsStartSo, stored_config, stored_start, AreWordsOf, IsMade}
 use Rattle.pm_world.specs.Parts.{LivesLeaveParts, StartsAreParts}
-use Rattle.pm_world.specs.Retelling.{WasOrdered, accepts, open_pending, pending_code, pending_message, pending_of, taken_at, takes, told}
+use Rattle.pm_world.specs.Retelling.{WasOrdered, accepts, open_pending, pending_code, pending_message, pending_of, taken_at, takes}
+use Rattle.pm_world.specs.Retelling.{steps_of_event}
 use Rattle.pm_world.specs.Retelling.{told_beside, retold, start_settings}
-use Rattle.pm_world.specs.Setup.{setup_of, start as world_start}
+use Rattle.pm_world.specs.Setup.{setup_of, world_start}
 use Rattle.pm_world.specs.State.{State, asked, cause_beside, delivered, delivery_cause, event_cause, host_after, next, refused}
 use Rattle.pm_world.specs.State.{share_beside, tells, device_after}
 use Rattle.pm_world.specs.declared.cause.Cause.TheVariants.{NotBetrayed, WrongKind}
@@ -120,12 +121,12 @@ whole-frame : (frame : List ℕ) → is_whole frame Whole ≡ true
 whole-frame frame = ap (λ b. b && true) ((bytes_eq-Decides frame frame).1 refl)
 
 -- a step that is told is no order that is accepted
-no-end : (config : Config) (passes : ℕ) (before : List Event) (job : PendingJob) → told config passes before RestartHost ≡ Accept job ∷ [] → ⊥
-unfolding told told_beside
+no-end : (config : Config) (passes : ℕ) (before : List Event) (job : PendingJob) → steps_of_event config passes before RestartHost ≡ Accept job ∷ [] → ⊥
+unfolding steps_of_event told_beside
 no-end config passes before job is = cc
 
-no-take : (config : Config) (passes : ℕ) (before : List Event) (job : PendingJob) → told config passes before (Deliver Whole) ≡ Accept job ∷ [] → ⊥
-unfolding told told_beside
+no-take : (config : Config) (passes : ℕ) (before : List Event) (job : PendingJob) → steps_of_event config passes before (Deliver Whole) ≡ Accept job ∷ [] → ⊥
+unfolding steps_of_event told_beside
 no-take config passes before job is = go (taken_at config passes before (Deliver Whole)) is where
   go : (o : Option PendingJob) → takes o ≡ Accept job ∷ [] → ⊥
   go None e = cc
@@ -148,7 +149,7 @@ opened-job config passes before event job p asks opened =
 -- A job of a new host that sends one write, which an event asks for.
 record Sends (config : Config) (passes : ℕ) (event : Event) (job : host.Job) (p : PendingJob) : Type 0 where
   asks : (s : Summary) → job_of s event ≡ Some job
-  free : refusal_of (start (setup_of config passes)) event ≡ None
+  free : refusal_of_event (start (setup_of config passes)) event ≡ None
   beside : (s : State) → cause_beside s event ≡ None
   sends : sending_in (host_next (start (setup_of config passes)) (host.Accepted job)) ≡ Some (pending_message p)
   same : (host_next (start (setup_of config passes)) (host.Accepted job)).setup ≡ setup_of config passes
@@ -169,7 +170,7 @@ taken laws P config passes words store m event job p is allowed orders =
     let asks : asked s event ≡ Some job = is.asks s.host in
     let begun = event ∷ m.events in
     let lived1 = laws.lived.more config passes m.events event m.lived
-    (ap₂ option_or (ap refused (ap (λ (h : Summary). refusal_of h event) m.host ∙ is.free)) (is.beside s)) in
+    (ap₂ option_or (ap refused (ap (λ (h : Summary). refusal_of_event h event) m.host ∙ is.free)) (is.beside s)) in
     let more1 = laws.followed.more config passes m.events event lived1 in
     let s1 = now config passes begun in
     let host1 : s1.host ≡ host_next (start setup) (host.Accepted job) =
@@ -206,18 +207,18 @@ taken laws P config passes words store m event job p is allowed orders =
   where
     go : asked (now config passes m.events) event ≡ Some job → (cell : Cell) (word : ℕ) (later : List Event) (e : Event) (before : List Event) →
         RestartHost ∷ Deliver Whole ∷ event ∷ m.events ≡ later ++ e ∷ before →
-        told config passes before e ≡ Accept (pending.Order cell word) ∷ [] → P cell word
+        steps_of_event config passes before e ≡ Accept (pending.Order cell word) ∷ [] → P cell word
     go asks cell word [] e before at orders' =
         let here : RestartHost ≡ e = cc in
-        absurd (no-end config passes before (pending.Order cell word) (ap (told config passes before) here ∙ orders'))
+        absurd (no-end config passes before (pending.Order cell word) (ap (steps_of_event config passes before) here ∙ orders'))
     go asks cell word (x ∷ []) e before at orders' =
         let here : Deliver Whole ≡ e = cc in
-        absurd (no-take config passes before (pending.Order cell word) (ap (told config passes before) here ∙ orders'))
+        absurd (no-take config passes before (pending.Order cell word) (ap (steps_of_event config passes before) here ∙ orders'))
     go asks cell word (x ∷ y ∷ []) e before at orders' =
         let here : event ≡ e = cc in
         let rest : m.events ≡ before = cc in
         orders cell word (sym (asked-told config passes m.events event job asks)
-        ∙ (ap₂ (λ b f. told config passes b f) rest here ∙ orders'))
+        ∙ (ap₂ (λ b f. steps_of_event config passes b f) rest here ∙ orders'))
     go asks cell word (x ∷ y ∷ z ∷ later) e before at orders' =
         let rest : m.events ≡ later ++ e ∷ before = cc in
         m.ordered cell word (record { later = later; event = e; before = before; is = rest; orders = orders' })
@@ -245,7 +246,7 @@ order-free laws setup cell word few there accepted =
 
 order-sends : Reaching → (config : Config) (passes : ℕ) (cell : Cell) (word : ℕ) → config.count ≤ 8 → is_cell config.count cell ≡ true →
     cell_accepts cell word ≡ true → Sends config passes (Order cell word) (host.Order cell word) (pending.Order cell word)
-unfolding host_next open_job end_of
+unfolding host_next open_job last_job_end
 order-sends laws config passes cell word few there accepted = record {
   asks = λ s. refl;
   free = order-free laws (setup_of config passes) cell word few there accepted;

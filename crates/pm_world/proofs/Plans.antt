@@ -30,7 +30,7 @@ use Rattle.pm_host.specs.declared.host.Step.TheVariants.{Next, Ended}
 use Rattle.pm_host.specs.declared.job.Job.TheVariants as job
 use Rattle.pm_host.specs.declared.job.JobEnd.TheVariants.{Done, Learned}
 use Rattle.pm_host.specs.declared.knowledge.Possible.TheVariants.{Any, Words as Listed}
-use Rattle.pm_limits.specs.{Ends.end_of, Laws.WholePartsMissNothing, declared.band.Band.Band, declared.ends.Side.Side}
+use Rattle.pm_limits.specs.{Ends.farthest_word, Laws.WholePartsMissNothing, declared.band.Band.Band, declared.ends.Side.Side}
 use Rattle.pm_limits.specs.{declared.fault.LimitFault.TheVariants.MissingRegister, declared.output_limits.OutputLimits.OutputLimits}
 use Rattle.pm_limits.specs.{declared.part_registers.PartRegisters.PartRegisters}
 use Rattle.pm_limits.specs.Band as limits
@@ -55,7 +55,7 @@ use Rattle.pm_world.specs.Lemmas.Plans.{known-is, wanted-has}
 use Rattle.pm_world.specs.Life.{life, now, state_of}
 use Rattle.pm_world.specs.Moves.{MovesBy, came_back, ordered, restored}
 use Rattle.pm_world.specs.Plans.{held_at, IsReadSince, Follows, IsPlansOrder, KeepsPlans, MayAsk, last_order, newest_order}
-use Rattle.pm_world.specs.Possible.{restarts_host, has_read}
+use Rattle.pm_world.specs.Possible.{restarts_host, host_has_read}
 use Rattle.pm_world.specs.Retelling.{open_pending, pending_of}
 use Rattle.pm_world.specs.State.{asked, share_of}
 use Rattle.pm_world.specs.Surveys.{AreRead, FollowsSurveys, was_read, AreKnownSince, IsOneValue, KeepsSurveys, MissingUnread, cells_at}
@@ -427,7 +427,7 @@ pending-open laws config passes events = ap (λ (j : Option host.Job). option_an
 
 -- after a restart of the host none is open
 pub restarted-none : (setup : host.Setup) (entries : List host.Entry) → host.open_job setup (host.Restarted ∷ entries) ≡ None
-unfolding host.open_job host.end_of
+unfolding host.open_job host.last_job_end
 restarted-none setup entries = refl
 
 restart-none : (config : Config) (passes : ℕ) (before : List Event) (event : Event) → restarts_host event ≡ true →
@@ -795,16 +795,16 @@ module _ (laws : Below) (plans : Plans) {config : Config} {passes : ℕ} {events
 -- a register that was read since the converter's last restart still is after events at which it doesn't restart
 since-later : (config : Config) (passes : ℕ) (part : PartRegisters) (output : ℕ) (wants : Wants) (register : Reg)
     (later before : List Event) →
-    (has_read config passes (Out output register) before ≡ true → restarted_since config passes (Out output register) before ≡ false) →
+    (host_has_read config passes (Out output register) before ≡ true → restarted_since config passes (Out output register) before ≡ false) →
     Follows config passes part output wants later before →
-    has_read config passes (Out output register) (later ++ before) ≡ true →
+    host_has_read config passes (Out output register) (later ++ before) ≡ true →
     restarted_since config passes (Out output register) (later ++ before) ≡ false
-unfolding restarted_since has_read
+unfolding restarted_since host_has_read
 since-later config passes part output wants register [] before since follows = since
 since-later config passes part output wants register (event ∷ later) before since follows =
     go (reads_cell config passes (Out output register) (later ++ before) event) (restarts_converter event)
     (restarted_since config passes (Out output register) (later ++ before)) (restarts_host event)
-    (has_read config passes (Out output register) (later ++ before)) follows.0
+    (host_has_read config passes (Out output register) (later ++ before)) follows.0
     (since-later config passes part output wants register later before since follows.2)
   where
     go : (reads restarts since host read : Bool) → restarts ≡ false → (read ≡ true → since ≡ false) →
@@ -1141,7 +1141,7 @@ one-end side shape known words output taken operation select max min =
     ∙ ap (λ (p : Possible). limited (end (only word)) (end (only (word_at words (Out output VoutMin)))) (end p)) max
   where
     end : Possible → Ratio
-    end possible = shape_value shape (end_of side shape (shape_value shape) possible)
+    end possible = shape_value shape (farthest_word side shape (shape_value shape) possible)
 
     word : ℕ
     word = word_at words (Out output (selected_register (word_at words (Out output Operation))))
@@ -1195,10 +1195,10 @@ module _ (laws : Below) {config : Config} {passes : ℕ} {events : List Event} (
       (known-held-at Operation refl) (selected-needed laws (known_of lives_cells output) wants))
 
   ends : (side : Side) → end_with side (shape_for config output)
-      (limits.known_of part (shape_for config output) (now config passes events).host output)
+      (limits.known_of_output part (shape_for config output) (now config passes events).host output)
       (operations (possible_at (now config passes events).host (Out output Operation))) ≡ commands config passes events output
   ends side = one-end side (shape_for config output)
-      (limits.known_of part (shape_for config output) (now config passes events).host output)
+      (limits.known_of_output part (shape_for config output) (now config passes events).host output)
       (now config passes events).device.words output
       (accepted-byte (Out output Operation) (lives_cells (Out output Operation)) (all Operation refl).0
       (known-held-at Operation refl)) (one-word Operation refl) chosen (one-word VoutMax refl) (one-word VoutMin refl)
@@ -1207,7 +1207,7 @@ module _ (laws : Below) {config : Config} {passes : ℕ} {events : List Event} (
       IsOneValue band config passes events output
   one-value band spelled is =
       let s = (now config passes events).host in
-      let same = band-of _ (format_at s output) (λ f. limits.known_of part f s output)
+      let same = band-of _ (format_at s output) (λ f. limits.known_of_output part f s output)
       (operations (possible_at s (Out output Operation))) (shape_for config output) band
       ((formats-agree laws config passes events lived spelled).held output) is in
       record {

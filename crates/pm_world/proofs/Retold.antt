@@ -32,7 +32,7 @@ use Rattle.pm_host.specs.{declared.knowledge.Possible.Possible, declared.questio
 use Rattle.pm_host.specs.Answers.{good_payload, good_word, word_in}
 use Rattle.pm_host.specs.Marks.{read_by, marks, Mark, Put, Restored, put_by, puts, send_marks, Good, goods, Restart as MarksRestart}
 use Rattle.pm_host.specs.Messages.{cell_read, cell_write}
-use Rattle.pm_host.specs.Now.{now as host_now, job_stage, stage_of, AreTold}
+use Rattle.pm_host.specs.Now.{host_now, job_stage, stage_of, AreTold}
 use Rattle.pm_host.specs.Possible.{is_possible, possible_from, possible_of, words_since, is_listed, once, only}
 use Rattle.pm_host.specs.Refusals.{job_fault, may_come, IsSetup}
 use Rattle.pm_host.specs.Sound.{IsStage, IsSound}
@@ -42,12 +42,13 @@ use Rattle.pm_host.specs.declared.knowledge.Possible.TheVariants.{Any, Words as 
 use Rattle.pm_host.specs.declared.stage.Stage.TheVariants.{Reads, Asks, Writes}
 use Rattle.pm_limits.specs.{Lemmas.Farthest.farthest_of-is, Part.missing_word, declared.band.Band.Band, declared.ends.Side.Side}
 use Rattle.pm_limits.specs.{declared.part_registers.PartRegisters.PartRegisters}
-use Rattle.pm_limits.specs.Band.{InBand, Known, band_at, band_with, decides, each_selection, end_choice, end_with, is_untaken, known_of}
+use Rattle.pm_limits.specs.Band.{InBand, Known, band_at, band_with, decides, each_selection, end_choice, end_with, is_untaken}
+use Rattle.pm_limits.specs.Band.{known_of_output}
 use Rattle.pm_limits.specs.Band.{may_select_avsbus, operations, reach, side_end}
-use Rattle.pm_limits.specs.Ends.{end_of, farthest_of}
+use Rattle.pm_limits.specs.Ends.{farthest_word, farthest_of}
 use Rattle.pm_limits.specs.Lemmas.Bands.{band-held, band-reached}
 use Rattle.pm_limits.specs.declared.ends.Side.TheVariants.{Lowest, Highest}
-use Rattle.pm_world.specs.{Below.Below, Honest.IsSpelled, Job.refusal_of, Lemmas.Formats.sound-dens, Lemmas.SinceRestart.since-same}
+use Rattle.pm_world.specs.{Below.Below, Honest.IsSpelled, Job.refusal_of_event, Lemmas.Formats.sound-dens, Lemmas.SinceRestart.since-same}
 use Rattle.pm_world.specs.{Limited.commands, declared.event.Arrival.Arrival, declared.event.Arrival.TheVariants.Whole}
 use Rattle.pm_world.specs.{declared.event.Back.Back, declared.event.Back.TheVariants.Bytes, declared.event.Event.Event}
 use Rattle.pm_world.specs.Bands.{AreShort, BandStands, HoldsMissing, MissingUntold, end_choices}
@@ -56,12 +57,13 @@ use Rattle.pm_world.specs.Legal.{answer_in, back_bytes, frame_of, heard_bytes, h
 use Rattle.pm_world.specs.Legal.{is_legal_hearing}
 use Rattle.pm_world.specs.Lemmas.{entries-more, now-config, write-heard, whole-hearing}
 use Rattle.pm_world.specs.Life.{life, now, state_of}
-use Rattle.pm_world.specs.Possible.{has_read, restarts_host, restarted_since_host}
-use Rattle.pm_world.specs.Setup.{setup_of, start}
+use Rattle.pm_world.specs.Possible.{host_has_read, restarts_host, restarted_since_host}
+use Rattle.pm_world.specs.Setup.{setup_of, world_start}
 use Rattle.pm_world.specs.State.{Share, State, answer_to, event_cause, exchange_cause, exchanged, share_of, delivery_cause, hearing, next}
 use Rattle.pm_world.specs.State.{rule, asked, cause_beside, finish_cause, refused}
 use Rattle.pm_world.specs.Uncertainty.{since_restart, IsLegal, arrival_for, job_event, AreLegal, AreOpen, AreSteady, Choice, arrivals_of}
-use Rattle.pm_world.specs.Uncertainty.{witness_start, due_before, is_good, leaves_open, with_due, witness_events, ArePossible, Leaves}
+use Rattle.pm_world.specs.Uncertainty.{witness_start, due_before, is_good_answer, leaves_open, with_due, witness_events, ArePossible}
+use Rattle.pm_world.specs.Uncertainty.{Leaves}
 use Rattle.pm_world.specs.Uncertainty.{may_hold}
 use Rattle.pm_world.specs.declared.cause.Cause.TheVariants.{WrongKind, NotBetrayed}
 use Rattle.pm_world.specs.declared.event.Event.TheVariants.{Deliver, Finish, Exchange}
@@ -118,7 +120,7 @@ since-among : Below → (config : Config) (passes : ℕ) (events : List Event) (
     (possible_of (marks (setup_of config passes) (life config passes events).entries) cell) ≡ true
 unfolding possible_of
 since-among laws config passes events cell lived fresh there =
-    elim (cases_Bool (has_read config passes cell events)) [
+    elim (cases_Bool (host_has_read config passes cell events)) [
       | inl read ↦ (life-known laws config passes events cell lived there).among
           (elim (cases_Bool (restarted_since config passes cell events)) [
             | inl restarted ↦ absurd (true≢false (sym (since-started config passes cell events read restarted) ∙ fresh))
@@ -424,7 +426,7 @@ job-asked s (host.Send RestoreUserAll) = refl
 job-asked s _ = refl
 
 -- the host refuses the event as it refuses the job
-job-refusal : (s : State) (job : host.Job) → refusal_of s.host (job_event job) ≡ job_fault s.host job
+job-refusal : (s : State) (job : host.Job) → refusal_of_event s.host (job_event job) ≡ job_fault s.host job
 job-refusal s (host.Send RestoreUserAll) = refl
 job-refusal s _ = refl
 
@@ -613,7 +615,7 @@ retold-host {config = config} {passes = passes} r = ap (host_now (setup_of confi
 -- the words of a new world
 first-words : Below → (config : Config) (passes : ℕ) → IsSetup (setup_of config passes) →
     (now config passes []).device.words ≡ start_words config
-unfolding start device_start
+unfolding world_start device_start
 first-words laws config passes made = ap (λ (s : State). s.device.words) (now-nil laws config passes made)
 
 -- no entry
@@ -885,7 +887,7 @@ got-tells : Below → {config : Config} {passes : ℕ} {first : Choice} {before 
     IsRetold config passes first before (marks (setup_of config passes) before)
     (due_before due (goods (setup_of config passes) before bytes)) events →
     Tells (now (witness_start config first) passes events)
-    (Exchange (arrival_for (is_good (setup_of config passes) before bytes)) (Bytes (record { items = bytes }))) (host.Got bytes)
+    (Exchange (arrival_for (is_good_answer (setup_of config passes) before bytes)) (Bytes (record { items = bytes }))) (host.Got bytes)
 got-tells laws {config = config} {passes = passes} {first = first} {before = before} {events = events} due bytes sound is came r =
     let takes = takes-again laws due bytes sound is came r in
     let setup = setup_of config passes in
@@ -950,7 +952,7 @@ retold laws {config = config} {passes = passes} {first = first} sound is due (ho
       fits = λ output register below.
           ap (λ (d : Choice). d (Out output register)) (sym (due_before-append due good ms)) ∙ fits output register below;
     }) in
-    let event = Exchange (arrival_for (is_good setup before bytes)) (Bytes (record { items = bytes })) in
+    let event = Exchange (arrival_for (is_good_answer setup before bytes)) (Bytes (record { items = bytes })) in
     let after = retold-told laws is older (got-tells laws due bytes sound is (t.come.0, more.0) older) in
     told-begun laws event entry is t.told parts.0
     (retold-marks (good ++ ms) due after
@@ -1092,10 +1094,10 @@ in-band laws {config = config} {passes = passes} {events = events} part output b
     let s = (now config passes events).host in
     let words = (now config passes events).device.words in
     let shape = shape_for config output in
-    let known = known_of part shape s output in
+    let known = known_of_output part shape s output in
     let agree = formats-agree laws config passes events lived spelled in
     let same = band-of (may_select_avsbus (possible_at s (Out output Operation))) (format_at s output)
-    (λ f. known_of part f s output) (operations (possible_at s (Out output Operation))) shape band (agree.held output) is in
+    (λ f. known_of_output part f s output) (operations (possible_at s (Out output Operation))) shape band (agree.held output) is in
     let held = possible-held laws config passes events lived in
     let possible = λ (register : Reg) (d : decides known register ≡ true).
     here-possible (missing_word part shape register) (possible_at s (Out output register)) (word_at words (Out output register))
@@ -1205,9 +1207,9 @@ missing-voltage part shape register word is = refl
 -- the words of an end are possible
 voltage-held : (side : Side) (shape : Shape) (output : ℕ) (register : Reg) (possible : Possible) → is_voltage register ≡ true →
     PossibleFilled possible →
-    may_hold (Out output register) (end_of side shape (shape_value shape) possible) possible ≡ true
+    may_hold (Out output register) (farthest_word side shape (shape_value shape) possible) possible ≡ true
 voltage-held side shape output register Any voltage full =
-    ap (λ (b : Bool). b || is_operation (end_of side shape (shape_value shape) Any)) voltage
+    ap (λ (b : Bool). b || is_operation (farthest_word side shape (shape_value shape) Any)) voltage
 voltage-held side shape output register (PossibleWords words) voltage full = listed-is side (shape_value shape) words.items full
 
 -- no listed byte is one that OPERATION doesn't take
@@ -1326,10 +1328,10 @@ ends-possible laws {config = config} {passes = passes} {events = events} part si
     go (missing_word part (shape_for config output) register) refl
   where
     go : (missing : Option ℕ) → missing_word part (shape_for config output) register ≡ missing →
-        may_hold (Out output register) (end_choice (sides output) (shape_for config output) (known_of part (shape_for config output)
+        may_hold (Out output register) (end_choice (sides output) (shape_for config output) (known_of_output part (shape_for config output)
         (now config passes events).host output) register) (possible_at (now config passes events).host (Out output register)) ≡ true
     go None e =
-        let known = known_of part (shape_for config output) (now config passes events).host output in
+        let known = known_of_output part (shape_for config output) (now config passes events).host output in
         let as_told : known register ≡ possible_at (now config passes events).host (Out output register)
         = ap (λ (o : Option ℕ). option_map_or only o (possible_at (now config passes events).host (Out output register))) e in
         subst (λ (p : Possible). may_hold (Out output register) (end_choice (sides output) (shape_for config output) known register) p
@@ -1339,7 +1341,7 @@ ends-possible laws {config = config} {passes = passes} {events = events} part si
         (subst PossibleFilled (sym as_told) (filled-at laws lived output register here))
         (bytes-taken laws lived fresh open' output here))
     go (Some word) e =
-        let known = known_of part (shape_for config output) (now config passes events).host output in
+        let known = known_of_output part (shape_for config output) (now config passes events).host output in
         let choice = end_choice (sides output) (shape_for config output) known register in
         subst (λ (p : Possible). may_hold (Out output register) choice p ≡ true) (sym (untold output register word here e))
         (ap (λ (b : Bool). b || is_operation choice) (missing-voltage part (shape_for config output) register word e))
@@ -1361,11 +1363,11 @@ end-left laws {config = config} {passes = passes} {events = events} part sides l
     =
     let s = (now config passes events).host in
     let shape = shape_for config output in
-    let known = known_of part shape s output in
+    let known = known_of_output part shape s output in
     let words = (now first passes retold).device.words in
     let agree = formats-agree laws config passes events lived spelled in
     let same = band-of (may_select_avsbus (possible_at s (Out output Operation))) (format_at s output)
-    (λ f. known_of part f s output) (operations (possible_at s (Out output Operation))) shape band (agree.held output) is in
+    (λ f. known_of_output part f s output) (operations (possible_at s (Out output Operation))) shape band (agree.held output) is in
     ap (λ (x : Shape). commanded (shape_value x) words output) (leaves.alike.shapes output here)
     ∙ band-reached (sides output) shape known words output (λ register. leaves.left output register here)
     ∙ side-is (sides output) shape known (operations (known Operation)) band same

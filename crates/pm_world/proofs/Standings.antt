@@ -29,11 +29,11 @@ use Rattle.pm_world.specs.{Below.Below, Lemmas.entries-more, declared.event.Arri
 use Rattle.pm_world.specs.Confirmed.{is_good_for, reads, reads_cell, restarted_since, restarts_converter}
 use Rattle.pm_world.specs.Life.{life, now}
 use Rattle.pm_world.specs.OpenLists.{are_open, is_other, lists_other}
-use Rattle.pm_world.specs.Possible.{restarted_since_host, restarts_host, has_read}
-use Rattle.pm_world.specs.Setup.{setup_fault, setup_of}
+use Rattle.pm_world.specs.Possible.{restarted_since_host, restarts_host, host_has_read}
+use Rattle.pm_world.specs.Setup.{world_fault, setup_of}
 use Rattle.pm_world.specs.State.{share_of, State, asked}
 use Rattle.pm_world.specs.Uncertainty.{Choice, due_before, with_due, AreOfBytes, AreWordsChosen, AreOpen, leaves_open, arrivals_of}
-use Rattle.pm_world.specs.Uncertainty.{event_of, found, since_restart, witness_events}
+use Rattle.pm_world.specs.Uncertainty.{event_of_entry, marks_found, since_restart, witness_events}
 use Rattle.pm_world.specs.declared.event.Event.TheVariants.{Deliver, RestartHost}
 
 -- What the host says of a cell after one more entry, and the word that the cell has then.
@@ -402,8 +402,8 @@ host-free = search rules
 -- the world of a sound start that has as many outputs can be made
 pub can-be-made : Below → (config start : Config) (passes : ℕ) → IsSound start → IsSetup (setup_of config passes)
     → start.count ≡ config.count →
-    setup_fault start passes ≡ None
-unfolding setup_fault
+    world_fault start passes ≡ None
+unfolding world_fault
 can-be-made laws config start passes sound made same =
     ap₂ option_or
     (ap (option_map _) ((laws.sound_configurations_have_no_fault start).0 sound))
@@ -609,10 +609,10 @@ short-entries : (setup : host.Setup) (entries : List host.Entry) (due : Choice) 
     length (witness_events setup due entries) ≤ 2 * length entries
 short-entries setup [] due = omega arith
 short-entries setup (entry ∷ before) due =
-    let rest = short-entries setup before (due_before due (found setup entry before)) in
+    let rest = short-entries setup before (due_before due (marks_found setup entry before)) in
     let new = one-arrival due (puts setup (entry ∷ before)) (are-puts setup (entry ∷ before)) in
     let all = length-append (arrivals_of due (puts setup (entry ∷ before)))
-    (event_of setup before entry ∷ witness_events setup (due_before due (found setup entry before)) before) in
+    (event_of_entry setup before entry ∷ witness_events setup (due_before due (marks_found setup entry before)) before) in
     omega arith
 
 -- no more was told since the host's last restart than in all
@@ -732,33 +732,35 @@ unfolding life
 first-none config passes cell = refl
 
 -- a life that doesn't read the cell leaves it unread
-pub unread-none : (config : Config) (passes : ℕ) (cell : Cell) (events : List Event) → has_read config passes cell events ≡ false →
+pub unread-none : (config : Config) (passes : ℕ) (cell : Cell) (events : List Event) → host_has_read config passes cell events ≡ false →
     NoWords (marks (setup_of config passes) (life config passes events).entries) cell
-unfolding has_read
+unfolding host_has_read
 unread-none config passes cell [] unread = first-none config passes cell
 unread-none config passes cell (event ∷ before) unread =
     subst (λ es. NoWords (marks (setup_of config passes) es) cell) (sym (entries-more config passes before event))
     (go (restarts_host event) refl unread (unread-none config passes cell before))
   where
     go : (b : Bool) → restarts_host event ≡ b →
-        cond b false (reads_cell config passes cell before event || has_read config passes cell before) ≡ false →
-        (has_read config passes cell before ≡ false → NoWords (marks (setup_of config passes) (life config passes before).entries) cell) →
+        cond b false (reads_cell config passes cell before event || host_has_read config passes cell before) ≡ false →
+        (host_has_read config passes cell before ≡ false →
+        NoWords (marks (setup_of config passes) (life config passes before).entries) cell) →
         NoWords (marks (setup_of config passes)
         (option_to_list (share_of (now config passes before) event).told ++ (life config passes before).entries)) cell
     go true e h older =
         subst (λ o. NoWords (marks (setup_of config passes) (option_to_list o ++ (life config passes before).entries)) cell)
         (sym (restart-told (now config passes before) event e)) refl
     go false e h older =
-        let both = or_parts (reads_cell config passes cell before event) (has_read config passes cell before) h in
+        let both = or_parts (reads_cell config passes cell before event) (host_has_read config passes cell before) h in
         told-none (setup_of config passes) (life config passes before).entries cell (share_of (now config passes before) event).told
         both.0 (older both.1)
 
 -- a cell was read if words are listed for it
 pub listed-read : (config : Config) (passes : ℕ) (cell : Cell) (events : List Event) →
-    possible_of (marks (setup_of config passes) (life config passes events).entries) cell ≢ Any → has_read config passes cell events ≡ true
+    possible_of (marks (setup_of config passes) (life config passes events).entries) cell ≢ Any → host_has_read config passes cell events
+    ≡ true
 unfolding possible_of
 listed-read config passes cell events listed =
-    elim (cases_Bool (has_read config passes cell events)) [
+    elim (cases_Bool (host_has_read config passes cell events)) [
       | inl read ↦ read
       | inr unread ↦ absurd (listed (ap possible_from (unread-none config passes cell events unread)))
     ]

@@ -9,7 +9,7 @@ use Rattle.pm_host.specs.declared.knowledge.Possible.TheVariants.{Any}
 use Rattle.pm_host.specs.Summary.{Summary, possible_at}
 use Rattle.pm_limits.specs.declared.part_registers.PartRegisters.{PartRegisters}
 use Rattle.pm_limits.specs.declared.ends.Side.{Side}
-use Rattle.pm_limits.specs.Band.{decides, end_choice, known_of}
+use Rattle.pm_limits.specs.Band.{decides, end_choice, known_of_output}
 use Rattle.pm_limits.specs.Part.{missing_word}
 use Rattle.pm_world.specs.declared.event.Event.{Event}
 use Rattle.pm_world.specs.Confirmed.{restarted_since}
@@ -39,5 +39,5 @@ MissingUntold part config host = (output : ℕ) (register : Reg) (word : ℕ) �
 -- the words with which each output commands an end of its band, at a side of its own choice; 00h for WRITE_PROTECT
 abbrev pub end_choices : PartRegisters → Config → Summary → (ℕ → Side) → Choice
 end_choices part config host sides (Out output register) =
-    end_choice (sides output) (shape_for config output) (known_of part (shape_for config output) host output) register
+    end_choice (sides output) (shape_for config output) (known_of_output part (shape_for config output) host output) register
 end_choices part config host sides Protect = 0x00

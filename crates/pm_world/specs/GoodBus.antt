@@ -36,13 +36,13 @@ use Rattle.pm_world.specs.Life.{life, now}
 use Rattle.pm_world.specs.State.{State, answer_to}
 
 -- a reading of the converter changes, which disturbs nothing; beside it what is sent may be delivered
-abbrev pub is_reading : Event → Bool
-is_reading (Reading output code word) = true
-is_reading _ = false
+abbrev pub is_reading_change : Event → Bool
+is_reading_change (Reading output code word) = true
+is_reading_change _ = false
 
 abbrev pub is_beside : Event → Bool
 is_beside (Deliver arrival) = true
-is_beside event = is_reading event
+is_beside event = is_reading_change event
 
 -- a delivery by which the write of this frame is heard whole
 abbrev pub delivers_whole : List ℕ → Event → Bool
@@ -72,30 +72,30 @@ pub record IsRead (config : Config) (passes : ℕ) (request : Message) (before e
   pub back : Back
   pub readings : List Event
   pub is : events ≡ Exchange arrival back ∷ readings ++ before
-  pub beside : list_all is_reading readings ≡ true
+  pub beside : list_all is_reading_change readings ≡ true
   pub whole : comes_whole (now config passes (readings ++ before)) request arrival back ≡ true
 
 -- the stage of the open job, and what the converter holds in a cell
 abbrev pub stage_after : Config → ℕ → List Event → Option Stage
 stage_after config passes events = (now config passes events).host.stage
 
-abbrev pub held_after : Config → ℕ → List Event → Cell → ℕ
-held_after config passes events cell = word_at (now config passes events).device.words cell
+abbrev pub word_held_after : Config → ℕ → List Event → Cell → ℕ
+word_held_after config passes events cell = word_at (now config passes events).device.words cell
 
 -- the word that the converter holds in a cell isn't one that the host thinks possible
 abbrev pub is_surprising : Config → ℕ → List Event → Cell → Bool
 is_surprising config passes events cell = not
-    (is_possible (held_after config passes events cell) (possible_at (now config passes events).host cell))
+    (is_possible (word_held_after config passes events cell) (possible_at (now config passes events).host cell))
 
 -- A cell was read: the host had one good answer, whose word the converter holds, and holds it confirmed and alone
 -- possible. Where it wasn't possible before, the host says that it saw a restart, and any word is possible for each
 -- other cell; otherwise each has the words that it had. The converter's words stay.
 pub record WasRead (config : Config) (passes : ℕ) (cell : Cell) (before after : List Event) : Type 0 where
   pub answer : List ℕ
-  pub good : good_word config.addr cell answer ≡ Some (held_after config passes after cell)
+  pub good : good_word config.addr cell answer ≡ Some (word_held_after config passes after cell)
   pub one_frame : (life config passes after).entries ≡ Got answer ∷ (life config passes before).entries
-  pub confirmed : standing_at (now config passes after).host cell ≡ Confirmed (held_after config passes after cell)
-  pub alone : possible_at (now config passes after).host cell ≡ only (held_after config passes after cell)
+  pub confirmed : standing_at (now config passes after).host cell ≡ Confirmed (word_held_after config passes after cell)
+  pub alone : possible_at (now config passes after).host cell ≡ only (word_held_after config passes after cell)
   pub others : (other : Cell) → IsCell 8 other → same_cell cell other ≡ false →
       possible_at (now config passes after).host other
       ≡ (if is_surprising config passes before cell then Any else possible_at (now config passes before).host other)
@@ -118,7 +118,7 @@ pub record WentInPass (config : Config) (passes : ℕ) (cell : Cell) (word : ℕ
   pub done : (now config passes after).end ≡ Some Done
   pub confirmed : standing_at (now config passes after).host cell ≡ Confirmed word
   pub alone : possible_at (now config passes after).host cell ≡ only word
-  pub held : held_after config passes after cell ≡ word
+  pub held : word_held_after config passes after cell ≡ word
 
 -- a learn of an output ended Learned, and the host holds the converter's format
 pub record WasLearned (config : Config) (passes : ℕ) (output : ℕ) (after : List Event) : Type 0 where
@@ -128,7 +128,7 @@ pub record WasLearned (config : Config) (passes : ℕ) (output : ℕ) (after : L
 -- a cell was asked for and read by an exchange that nothing disturbs; readings may have changed before
 pub record Checks (config : Config) (passes : ℕ) (cell : Cell) (before after : List Event) : Type 0 where
   pub readings : List Event
-  pub beside : list_all is_reading readings ≡ true
+  pub beside : list_all is_reading_change readings ≡ true
   pub read : IsRead config passes (cell_read cell) (Check cell ∷ readings ++ before) after
 
 -- each of the cells was asked for and read as `Checks` says, one after another, in this order
@@ -149,16 +149,16 @@ AreThere count cells = (cell : Cell) → is_among cell cells ≡ true → IsCell
 pub record WasWritten (config : Config) (passes : ℕ) (cell : Cell) (word pass : ℕ) (acked : Bool) (before after : List Event) : Type 0 where
   pub stage : stage_after config passes after ≡ Some (Reads cell word pass)
   pub one_frame : (life config passes after).entries ≡ Finished acked ∷ (life config passes before).entries
-  pub taken : is_allowed (held_after config passes before Protect) (cell_code cell) ≡ true →
-      held_after config passes after cell ≡ word
-  pub kept : is_allowed (held_after config passes before Protect) (cell_code cell) ≡ false →
+  pub taken : is_allowed (word_held_after config passes before Protect) (cell_code cell) ≡ true →
+      word_held_after config passes after cell ≡ word
+  pub kept : is_allowed (word_held_after config passes before Protect) (cell_code cell) ≡ false →
       (now config passes after).device.words ≡ (now config passes before).device.words
 
 -- A cell was read back that holds another word than the order's: the host had one good answer, whose word the converter
 -- holds, and writes again in the next pass. The converter's words stay.
 pub record WritesAgain (config : Config) (passes : ℕ) (cell : Cell) (word pass : ℕ) (before after : List Event) : Type 0 where
   pub answer : List ℕ
-  pub good : good_word config.addr cell answer ≡ Some (held_after config passes before cell)
+  pub good : good_word config.addr cell answer ≡ Some (word_held_after config passes before cell)
   pub one_frame : (life config passes after).entries ≡ Got answer ∷ (life config passes before).entries
   pub stage : stage_after config passes after ≡ Some (Writes cell word (pass + 1))
   pub kept : (now config passes after).device.words ≡ (now config passes before).device.words
@@ -173,13 +173,13 @@ pub record GoodFrames (config : Config) (passes : ℕ) (events : List Event) : T
   -- an order that WRITE_PROTECT allows is done by the write and the read of one pass, whichever it is
   pub order : (later before middle after : List Event) (cell : Cell) (word pass : ℕ) (acked : Bool) →
       events ≡ later ++ after → stage_after config passes before ≡ Some (Writes cell word pass) →
-      is_allowed (held_after config passes before Protect) (cell_code cell) ≡ true →
+      is_allowed (word_held_after config passes before Protect) (cell_code cell) ≡ true →
       IsWritten (frame_of config.addr (cell_write cell word)) acked before middle →
       IsRead config passes (cell_read cell) middle after → WentInPass config passes cell word acked before after
   -- an order that is to be read back, and whose word the converter holds, is done by that read
   pub read_back : (later before after : List Event) (cell : Cell) (word pass : ℕ) → events ≡ later ++ after →
       stage_after config passes before ≡ Some (Reads cell word pass) →
-      held_after config passes before cell ≡ word →
+      word_held_after config passes before cell ≡ word →
       IsRead config passes (cell_read cell) before after → ReadDone config passes cell before after
   -- The write of an order that comes whole is followed by a read of its cell, in each pass, acknowledged or not: the
   -- converter holds the word exactly where WRITE_PROTECT allows it.
@@ -190,14 +190,14 @@ pub record GoodFrames (config : Config) (passes : ℕ) (events : List Event) : T
   -- an order that is to be read back, and whose word the converter doesn't hold, is written again where a pass is left
   pub again : (later before after : List Event) (cell : Cell) (word pass : ℕ) → events ≡ later ++ after →
       stage_after config passes before ≡ Some (Reads cell word pass) →
-      held_after config passes before cell ≢ word → pass + 1 < passes →
+      word_held_after config passes before cell ≢ word → pass + 1 < passes →
       IsRead config passes (cell_read cell) before after → WritesAgain config passes cell word pass before after
   -- such an order is done by three frames where WRITE_PROTECT allows it: by that read, and by the write and the read of
   -- the next pass
   pub three : (later before first middle after : List Event) (cell : Cell) (word pass : ℕ) (acked : Bool) →
       events ≡ later ++ after → stage_after config passes before ≡ Some (Reads cell word pass) →
-      held_after config passes before cell ≢ word → pass + 1 < passes →
-      is_allowed (held_after config passes before Protect) (cell_code cell) ≡ true →
+      word_held_after config passes before cell ≢ word → pass + 1 < passes →
+      is_allowed (word_held_after config passes before Protect) (cell_code cell) ≡ true →
       IsRead config passes (cell_read cell) before first →
       IsWritten (frame_of config.addr (cell_write cell word)) acked first middle →
       IsRead config passes (cell_read cell) middle after →
@@ -206,10 +206,10 @@ pub record GoodFrames (config : Config) (passes : ℕ) (events : List Event) : T
   -- in the last pass it differs by that read, with the word that the converter holds
   pub last : (later before after : List Event) (cell : Cell) (word pass : ℕ) → events ≡ later ++ after →
       stage_after config passes before ≡ Some (Reads cell word pass) →
-      held_after config passes before cell ≢ word → pass + 1 ≡ passes →
+      word_held_after config passes before cell ≢ word → pass + 1 ≡ passes →
       IsRead config passes (cell_read cell) before after →
       WasRead config passes cell before after
-      × ((now config passes after).end ≡ Some (Differs (held_after config passes before cell)))
+      × ((now config passes after).end ≡ Some (Differs (word_held_after config passes before cell)))
   -- a clear, a store or a restore is done by one write that is acknowledged
   pub send : (later before after : List Event) (command : Command) (tries : ℕ) → events ≡ later ++ after →
       stage_after config passes before ≡ Some (Sends command tries) →
@@ -242,7 +242,7 @@ pub record GoodFrames (config : Config) (passes : ℕ) (events : List Event) : T
   pub sweep : (later before after : List Event) (cells : List Cell) (last : Cell) → events ≡ later ++ after →
       AreThere config.count (last ∷ cells) → Sweeps config passes (cells ++ last ∷ cells) before after →
       (cell : Cell) → is_among cell (last ∷ cells) ≡ true →
-      possible_at (now config passes after).host cell ≡ only (held_after config passes after cell)
+      possible_at (now config passes after).host cell ≡ only (word_held_after config passes after cell)
   -- Checks of cells show a restart where the word of one of them wasn't possible.
   pub shown : (later before after : List Event) (cells : List Cell) (cell : Cell) → events ≡ later ++ after →
       AreThere config.count cells → Sweeps config passes cells before after → is_among cell cells ≡ true →

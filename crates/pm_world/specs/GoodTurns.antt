@@ -22,7 +22,7 @@ use Rattle.pm_host.specs.Messages.{cell_read}
 use Rattle.pm_host.specs.Question.{question_message}
 use Rattle.pm_host.specs.Summary.{stage_message}
 use Rattle.pm_world.specs.declared.event.Event.{Event}
-use Rattle.pm_world.specs.GoodBus.{IsRead, IsWritten, held_after, stage_after}
+use Rattle.pm_world.specs.GoodBus.{IsRead, IsWritten, word_held_after, stage_after}
 use Rattle.pm_world.specs.Honest.{IsSpelled}
 use Rattle.pm_world.specs.Legal.{frame_of}
 use Rattle.pm_world.specs.Lived.{IsLived}
@@ -70,7 +70,7 @@ turn_by modes words passes acked (Sends command tries) = send_turn passes comman
 
 -- what it makes of a job by what the converter holds after these events
 abbrev pub turn_of : Config → ℕ → List Event → Bool → Stage → Turn
-turn_of config passes before acked stage = turn_by (mode_for config) (held_after config passes before) passes acked stage
+turn_of config passes before acked stage = turn_by (mode_for config) (word_held_after config passes before) passes acked stage
 
 -- a job took this turn: it is open no more and ended so, or it is open at this stage
 abbrev pub Took : Option Stage → Option JobEnd → Turn → Type 0
@@ -95,8 +95,8 @@ ComeWhole config passes (acked ∷ more) before after =
     × ComeWhole config passes more middle after
 
 -- An order whose cell holds this word ends so. `takes`: a write of it is left that WRITE_PROTECT allows.
-abbrev pub order_end : Bool → ℕ → ℕ → JobEnd
-order_end takes word held = if held == word then Done else (if takes then Done else Differs held)
+abbrev pub order_end_holding : Bool → ℕ → ℕ → JobEnd
+order_end_holding takes word held = if held == word then Done else (if takes then Done else Differs held)
 
 -- How an open job ends from this stage on, by the words that the converter holds, once all its frames come whole. An order is done but where
 -- its cell holds another word, and either WRITE_PROTECT forbids its code or the read of its last pass is what is left.
@@ -105,13 +105,13 @@ good_end_by words passes (Asks (Word cell) tries) = Done
 good_end_by words passes (Asks (Mode output) tries) = Learned
 good_end_by words passes (Asks (Coefficients output) tries) = Learned
 good_end_by words passes (Sends command tries) = Done
-good_end_by words passes (Writes cell word pass) = order_end (is_allowed (words Protect) (cell_code cell)) word (words cell)
+good_end_by words passes (Writes cell word pass) = order_end_holding (is_allowed (words Protect) (cell_code cell)) word (words cell)
 good_end_by words passes (Reads cell word pass) =
-    order_end (not (pass + 1 == passes) && is_allowed (words Protect) (cell_code cell)) word (words cell)
+    order_end_holding (not (pass + 1 == passes) && is_allowed (words Protect) (cell_code cell)) word (words cell)
 
 -- how the job ends by what the converter holds after these events
 abbrev pub good_end : Config → ℕ → List Event → Stage → JobEnd
-good_end config passes before stage = good_end_by (held_after config passes before) passes stage
+good_end config passes before stage = good_end_by (word_held_after config passes before) passes stage
 
 -- Each frame of an open job that comes whole makes of the job just what its stage says, whatever went before (`turn`). Once its frames come
 -- whole there are no more of them than the job had left (`few`), and it ends just as said (`ends`).

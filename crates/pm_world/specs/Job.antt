@@ -36,5 +36,5 @@ abbrev pub job_of : Summary → Event → Option host.Job
 job_of s event = option_and_then (accepted_job s) (asked_by event)
 
 -- why the host refuses the job of an event; None where it accepts it, and where there is none
-abbrev pub refusal_of : Summary → Event → Option HostFault
-refusal_of s event = option_and_then (begin_fault s) (asked_by event)
+abbrev pub refusal_of_event : Summary → Event → Option HostFault
+refusal_of_event s event = option_and_then (begin_fault s) (asked_by event)

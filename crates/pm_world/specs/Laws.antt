@@ -33,7 +33,7 @@ use Rattle.pm_world.specs.Life.{AreTaken, AreTakenFrom, after_all, life, now}
 use Rattle.pm_world.specs.OpenLists.{are_open, stays_open}
 use Rattle.pm_world.specs.Possible.{PossibleIsHeld, SeenIsTrue, restarted_since_host}
 use Rattle.pm_world.specs.Retelling.{CommandsOwn, IsOrderRun, IsOwnWord}
-use Rattle.pm_world.specs.Setup.{setup_of, start}
+use Rattle.pm_world.specs.Setup.{setup_of, world_start}
 use Rattle.pm_world.specs.State.{HasWord, IsTaken, State, asked, event_cause, event_limit, next}
 use Rattle.pm_world.specs.Uncertainty.{AreLegal, AreOfBytes, AreOpen, ArePossible, AreWordsChosen, Choice, Leaves, due_before}
 use Rattle.pm_world.specs.Uncertainty.{since_restart, witness_events, witness_start}
@@ -55,7 +55,7 @@ pub record CausesDecide : Type 0 where
 -- from the start are the life's.
 pub record LivesAreFollowed : Type 0 where
   pub none : (config : Config) (passes : ℕ) → IsSetup (setup_of config passes) →
-      now config passes [] ≡ start config passes
+      now config passes [] ≡ world_start config passes
   pub more : (config : Config) (passes : ℕ) (events : List Event) (event : Event) →
       IsLived config passes (event ∷ events) →
       now config passes (event ∷ events) ≡ next (now config passes events) event
@@ -63,8 +63,8 @@ pub record LivesAreFollowed : Type 0 where
       IsLived config passes events →
       AreTold (setup_of config passes) (life config passes events).entries
   pub from_start : (config : Config) (passes : ℕ) (events : List Event) →
-      IsSound config → IsSetup (setup_of config passes) → AreTakenFrom (start config passes) events →
-      AreTaken config passes events × (now config passes events ≡ after_all (start config passes) events)
+      IsSound config → IsSetup (setup_of config passes) → AreTakenFrom (world_start config passes) events →
+      AreTaken config passes events × (now config passes events ≡ after_all (world_start config passes) events)
 
 -- The converter's words, and those in its store, are those of a run of the order machine that retells the
 -- events. Each cell has its start word, or that of an order for this very cell, and so it has in the store;

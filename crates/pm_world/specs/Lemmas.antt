@@ -17,7 +17,7 @@ use Rattle.pm_num.specs.AnyFormat.{Shape, shape_value}
 use Rattle.pm_frame.specs.Betrayal.{is_betrayed}
 use Rattle.pm_device.specs.declared.config.Config.{Config}
 use Rattle.pm_device.specs.declared.converter.Ending.TheVariants.{Restart, Stop}
-use Rattle.pm_device.specs.History.{now as device_now}
+use Rattle.pm_device.specs.History.{device_now}
 use Rattle.pm_limits.specs.Bounds.{Bounds, IsWithin}
 use Rattle.pm_world.specs.declared.event.Event.{Event}
 use Rattle.pm_world.specs.Legal.{is_legal_hearing}

@@ -3,8 +3,8 @@
 use Rattle.std.specs.Prelude.{◌≡◌, ℕ, List, [], ◌∷◌, ◌++◌, length, reverse, take, slice_get, Option, Some, None, IsSomeAnd, option_to_list}
 use Rattle.pm_device.specs.declared.config.Config.{Config}
 use Rattle.pm_device.specs.Effect as device
-use Rattle.pm_device.specs.History.{now as device_now}
-use Rattle.pm_host.specs.Now.{now as host_now}
+use Rattle.pm_device.specs.History.{device_now}
+use Rattle.pm_host.specs.Now.{host_now}
 use Rattle.pm_host.specs.Transcript as host
 use Rattle.pm_world.specs.declared.event.Event.{Event}
 use Rattle.pm_world.specs.declared.cause.Stop.{Stop}
@@ -21,7 +21,7 @@ unfoldable pub state_of : Config → ℕ → ℕ → Life → State
 state_of config passes taken life = record {
   device = device_now config life.past;
   host = host_now (setup_of config passes) life.entries;
-  end = host.end_of (setup_of config passes) life.entries;
+  end = host.last_job_end (setup_of config passes) life.entries;
   taken = taken;
 }
 

@@ -5,7 +5,7 @@ use Rattle.pm_table.specs.declared.reg.Reg.{Reg}
 use Rattle.pm_table.specs.declared.reg.Reg.TheVariants.{VoutMax, VoutMin}
 use Rattle.pm_table.specs.Operation.{selected_register}
 use Rattle.pm_model.specs.Commanded.{Scale, limited}
-use Rattle.pm_rail.specs.Laws.{HasDens, would_be_cut}
+use Rattle.pm_rail.specs.Laws.{ScaleHasDens, would_be_cut}
 use Rattle.pm_rail.specs.Registers.{Held}
 
 -- each register holds its word of the one or of the other, whichever
@@ -40,10 +40,10 @@ start_let_go value start goal byte =
 -- hold, where neither the words that it starts with nor those that are wanted are cut (`uncut`). Where the start words are
 -- cut, but VOUT_MIN isn't above VOUT_MAX, what it starts with may be let go as far as the wanted limits (`ordered`).
 pub record MixturesLieBetween : Type 0 where
-  pub uncut : (value : Scale) (start goal mixed : Held) (byte : ℕ) → HasDens value → AreMixed start goal mixed →
+  pub uncut : (value : Scale) (start goal mixed : Held) (byte : ℕ) → ScaleHasDens value → AreMixed start goal mixed →
       would_be_cut value start byte ≡ false → would_be_cut value goal byte ≡ false →
       LiesAmong (would_command value start byte ∷ would_command value goal byte ∷ []) (would_command value mixed byte)
-  pub ordered : (value : Scale) (start goal mixed : Held) (byte : ℕ) → HasDens value → AreMixed start goal mixed →
+  pub ordered : (value : Scale) (start goal mixed : Held) (byte : ℕ) → ScaleHasDens value → AreMixed start goal mixed →
       is_above (value (start VoutMin)) (value (start VoutMax)) ≡ false → would_be_cut value goal byte ≡ false →
       LiesAmong (would_command value start byte ∷ would_command value goal byte ∷ start_let_go value start goal byte ∷ [])
       (would_command value mixed byte)

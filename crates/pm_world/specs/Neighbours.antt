@@ -10,7 +10,7 @@ use Rattle.pm_device.specs.declared.converter.Ending.{Ending}
 use Rattle.pm_device.specs.Effect as device
 use Rattle.pm_device.specs.Effect.{kept_in}
 use Rattle.pm_device.specs.Held.{CmlFaults, Held}
-use Rattle.pm_device.specs.History.{is_for_other, next as device_next}
+use Rattle.pm_device.specs.History.{is_for_other, device_next}
 use Rattle.pm_device.specs.Start.{IsSound}
 use Rattle.pm_host.specs.Refusals.{IsSetup}
 use Rattle.pm_world.specs.declared.event.Arrival.TheVariants.{Whole}

@@ -26,7 +26,7 @@ use Rattle.pm_world.specs.Honest.{IsSpelled}
 use Rattle.pm_world.specs.Life.{now}
 use Rattle.pm_world.specs.Limited.{commands}
 use Rattle.pm_world.specs.Lived.{IsLived}
-use Rattle.pm_world.specs.Possible.{has_read}
+use Rattle.pm_world.specs.Possible.{host_has_read}
 use Rattle.pm_world.specs.State.{asked}
 
 -- the words that an output's registers hold after some events
@@ -71,7 +71,7 @@ Follows config passes part output wants (event ∷ later) before =
 abbrev pub IsReadSince : Config → ℕ → ℕ → Wants → List Event → Type 0
 IsReadSince config passes output wants events = (register : Reg) →
     is_needed (held_at config passes events output) wants register ≡ true →
-    has_read config passes (Out output register) events ≡ true →
+    host_has_read config passes (Out output register) events ≡ true →
     restarted_since config passes (Out output register) events ≡ false
 
 -- The host is idle before the later ones of these events, and what it has read by then of what the plan needs was read since the

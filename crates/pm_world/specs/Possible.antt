@@ -25,11 +25,11 @@ restarts_host RestartHost = true
 restarts_host _ = false
 
 -- the host had a good answer for the cell since it last started
-unfoldable pub has_read : Config → ℕ → Cell → List Event → Bool
-has_read config passes cell [] = false
-has_read config passes cell (event ∷ before) =
+unfoldable pub host_has_read : Config → ℕ → Cell → List Event → Bool
+host_has_read config passes cell [] = false
+host_has_read config passes cell (event ∷ before) =
     if restarts_host event then false
-    else (reads_cell config passes cell before event || has_read config passes cell before)
+    else (reads_cell config passes cell before event || host_has_read config passes cell before)
 
 -- the mark is a good answer for the cell, whose word wasn't possible by the marks before it
 abbrev pub is_surprise_for : Cell → List Mark → Mark → Bool
@@ -38,15 +38,15 @@ is_surprise_for cell before (Good read word) =
 is_surprise_for cell before _ = false
 
 -- what the host was told is such an answer: bytes that came back after these entries
-abbrev pub surprises : Setup → List Entry → Cell → Option Entry → Bool
-surprises setup before cell (Some (Got bytes)) =
+abbrev pub answer_surprises : Setup → List Entry → Cell → Option Entry → Bool
+answer_surprises setup before cell (Some (Got bytes)) =
     list_any (is_surprise_for cell (marks setup before)) (goods setup before bytes)
-surprises setup before cell _ = false
+answer_surprises setup before cell _ = false
 
 -- the event gives the host such an answer
 abbrev pub surprises_by : Config → ℕ → Cell → List Event → Event → Bool
 surprises_by config passes cell before event =
-    surprises (setup_of config passes) (life config passes before).entries cell
+    answer_surprises (setup_of config passes) (life config passes before).entries cell
     (share_of (now config passes before) event).told
 
 -- Since the host last started, the converter restarted between two good answers for the cell that have
@@ -56,7 +56,7 @@ restarted_between config passes cell [] = false
 restarted_between config passes cell (event ∷ before) =
     if restarts_host event then false
     else (reads_cell config passes cell before event
-    && (has_read config passes cell before && restarted_since config passes cell before)
+    && (host_has_read config passes cell before && restarted_since config passes cell before)
     || restarted_between config passes cell before)
 
 -- the converter restarted since the host last started
@@ -73,7 +73,7 @@ pub record PossibleIsHeld (config : Config) (passes : ℕ) (events : List Event)
       possible_at s.host cell
       ≡ possible_of (marks (setup_of config passes) (life config passes events).entries) cell
   pub found : (cell : Cell) → IsCell config.count cell →
-      possible_at s.host cell ≢ Any → has_read config passes cell events ≡ true
+      possible_at s.host cell ≢ Any → host_has_read config passes cell events ≡ true
   pub held : (cell : Cell) → IsCell config.count cell →
       restarted_since config passes cell events ≡ false →
       is_possible (word_at s.device.words cell) (possible_at s.host cell) ≡ true
@@ -85,7 +85,7 @@ pub record PossibleIsHeld (config : Config) (passes : ℕ) (events : List Event)
 pub record SeenIsTrue (config : Config) (passes : ℕ) (events : List Event) (s : State) : Type 0 where
   pub surprises : (later before : List Event) (event : Event) (cell : Cell) →
       events ≡ later ++ event ∷ before → surprises_by config passes cell before event ≡ true →
-      (has_read config passes cell before ≡ true) × (restarted_since config passes cell before ≡ true)
+      (host_has_read config passes cell before ≡ true) × (restarted_since config passes cell before ≡ true)
   pub seen : s.host.known.seen
       ≡ restart_seen_of (marks (setup_of config passes) (life config passes events).entries)
   pub between : s.host.known.seen ≡ true →

@@ -71,13 +71,13 @@ abbrev pub takes_frame : ℕ → Words → Arrival → PendingJob → Bool
 takes_frame addr words arrival job = is_whole (frame_of addr (pending_message job)) arrival
     && is_allowed (word_at words Protect) (pending_code job)
 
-abbrev pub taken_by : ℕ → Words → Arrival → Option PendingJob → Option PendingJob
-taken_by addr words arrival job =
+abbrev pub job_taken_by : ℕ → Words → Arrival → Option PendingJob → Option PendingJob
+job_taken_by addr words arrival job =
     option_and_then (λ open_one. if takes_frame addr words arrival open_one then Some open_one else None) job
 
 -- the order, store or restore that takes at an event: the open one, at such a delivery; None at any other
 unfoldable pub taken_at : Config → ℕ → List Event → Event → Option PendingJob
-taken_at config passes before (Deliver arrival) = taken_by config.addr
+taken_at config passes before (Deliver arrival) = job_taken_by config.addr
     (now config passes before).device.words arrival (open_pending config passes before)
 taken_at config passes before _ = None
 
@@ -110,8 +110,8 @@ told_beside config passes before RestartDevice = Back ∷ []
 told_beside config passes before _ = []
 
 -- How an event is told: a job that it asks for as the order, store or restore that it is.
-unfoldable pub told : Config → ℕ → List Event → Event → List Step
-told config passes before event =
+unfoldable pub steps_of_event : Config → ℕ → List Event → Event → List Step
+steps_of_event config passes before event =
     option_map_or (λ job. accepts (pending_of job)) (asked (now config passes before) event)
     (told_beside config passes before event)
 
@@ -120,7 +120,7 @@ told config passes before event =
 unfoldable pub retold : Config → ℕ → List Event → List Step
 retold config passes [] = []
 retold config passes (event ∷ before) =
-    told config passes before event ++ retold config passes before
+    steps_of_event config passes before event ++ retold config passes before
 
 -- The steps that retell these events are a run of the order machine, which leaves these words, and those in
 -- the store; the job that pends there is the open one.
@@ -136,7 +136,7 @@ pub record WasOrdered (config : Config) (passes : ℕ) (events : List Event) (ce
   pub event : Event
   pub before : List Event
   pub is : events ≡ later ++ event ∷ before
-  pub orders : told config passes before event ≡ Accept (pending.Order cell word) ∷ []
+  pub orders : steps_of_event config passes before event ≡ Accept (pending.Order cell word) ∷ []
 
 -- a cell's start word, or one that was ordered for this very cell
 abbrev pub IsOwnWord : Config → ℕ → List Event → Cell → ℕ → Type 0

@@ -15,14 +15,14 @@ abbrev pub setup_of : Config → ℕ → Setup
 setup_of config passes = record { addr = config.addr; outputs = config.count; passes = passes }
 
 -- why no world is made: the converter's fault before the host's
-unfoldable pub setup_fault : Config → ℕ → Option SetupFault
-setup_fault config passes =
+unfoldable pub world_fault : Config → ℕ → Option SetupFault
+world_fault config passes =
     option_or (option_map (λ fault. Device fault) (config_fault config))
     (option_map (λ fault. Host fault) (host_fault config.count passes))
 
 -- a world whose two ends start
-unfoldable pub start : Config → ℕ → State
-start config passes = record {
+unfoldable pub world_start : Config → ℕ → State
+world_start config passes = record {
   device = start_of config;
   host = host.start (setup_of config passes);
   end = None;

@@ -6,14 +6,14 @@ use Rattle.pm_frame.specs.Layout.{is_read_message}
 use Rattle.pm_frame.specs.Fault.{whole_answer}
 use Rattle.pm_device.specs.Held.{Held}
 use Rattle.pm_device.specs.Effect as device
-use Rattle.pm_device.specs.History.{next as device_next}
+use Rattle.pm_device.specs.History.{device_next}
 use Rattle.pm_device.specs.Reply.{reply_of}
 pub use Rattle.pm_table.specs.Rules.{rule}
 use Rattle.pm_host.specs.declared.fault.HostFault.{HostFault}
 use Rattle.pm_host.specs.declared.job.JobEnd.{JobEnd}
 use Rattle.pm_host.specs.declared.host.Step.{Step}
 use Rattle.pm_host.specs.declared.host.Step.TheVariants.{Next, Ended}
-use Rattle.pm_host.specs.Summary.{Summary, sending_in, next as host_next, step_of}
+use Rattle.pm_host.specs.Summary.{Summary, sending_in, host_next, step_of}
 use Rattle.pm_host.specs.Refusals.{micro_word}
 use Rattle.pm_host.specs.Transcript as host
 use Rattle.pm_world.specs.declared.event.Event.{Event}
@@ -22,7 +22,7 @@ use Rattle.pm_world.specs.declared.event.Arrival.{Arrival}
 use Rattle.pm_world.specs.declared.event.Back.{Back}
 use Rattle.pm_world.specs.declared.cause.Cause.{Cause}
 use Rattle.pm_world.specs.declared.cause.Cause.TheVariants.{Full, NothingSent, WrongKind, NotBetrayed, Host as Refuses}
-use Rattle.pm_world.specs.Job.{job_of, refusal_of}
+use Rattle.pm_world.specs.Job.{job_of, refusal_of_event}
 use Rattle.pm_world.specs.Legal.{frame_of, heard_bytes, heard_ending, is_legal_hearing, is_legal_return, is_heard_whole, answer_in}
 use Rattle.pm_world.specs.Legal.{back_bytes}
 
@@ -41,8 +41,8 @@ pub record Share : Type 0 where
   pub heard : Option device.Event
   pub told : Option host.Entry
 
-abbrev pub nothing : Share
-nothing = record { heard = None; told = None }
+abbrev pub no_share : Share
+no_share = record { heard = None; told = None }
 
 abbrev pub tells : host.Entry → Share
 tells entry = record { heard = None; told = Some entry }
@@ -66,11 +66,11 @@ answer_to held addr message arrival = answer_in
 
 -- what a delivery, and an exchange, of the message that is being sent tells the ends
 abbrev pub delivered : State → Arrival → Option Message → Share
-delivered s arrival None = nothing
+delivered s arrival None = no_share
 delivered s arrival (Some message) = hears (hearing s.host.setup.addr message arrival)
 
 abbrev pub exchanged : State → Arrival → Back → Option Message → Share
-exchanged s arrival back None = nothing
+exchanged s arrival back None = no_share
 exchanged s arrival back (Some message) = record {
   heard = Some (hearing s.host.setup.addr message arrival);
   told = Some (host.Got (back_bytes (answer_to s.device s.host.setup.addr message arrival) back));
@@ -84,7 +84,7 @@ share_beside s (Exchange arrival back) = exchanged s arrival back (sending_in s.
 share_beside s RestartDevice = hears device.Restarted
 share_beside s RestartHost = tells host.Restarted
 share_beside s (Reading output code word) = hears (device.Reading output code.0 word)
-share_beside s _ = nothing
+share_beside s _ = no_share
 
 -- what an event tells the ends: a job that it asks for is accepted
 abbrev pub share_of : State → Event → Share
@@ -118,12 +118,12 @@ shared s share = record {
 }
 
 -- one more event was taken
-abbrev pub counted : State → State
-counted s = record s { taken = s.taken + 1 }
+abbrev pub event_counted : State → State
+event_counted s = record s { taken = s.taken + 1 }
 
 -- what an event makes of a world
 unfoldable pub next : State → Event → State
-next s event = counted (shared s (share_of s event))
+next s event = event_counted (shared s (share_of s event))
 
 -- S4 where the host refuses
 abbrev pub refused : Option HostFault → Option Cause
@@ -171,7 +171,7 @@ cause_beside s _ = None
 
 -- why an event isn't taken, but for the world being full
 abbrev pub event_cause : State → Event → Option Cause
-event_cause s event = option_or (refused (refusal_of s.host event)) (cause_beside s event)
+event_cause s event = option_or (refused (refusal_of_event s.host event)) (cause_beside s event)
 
 -- how many events a world takes
 abbrev pub event_limit : ℕ

@@ -29,7 +29,7 @@ use Rattle.pm_world.specs.Job.{asked_by}
 use Rattle.pm_world.specs.Life.{now}
 use Rattle.pm_world.specs.Limited.{commands}
 use Rattle.pm_world.specs.Lived.{IsLived}
-use Rattle.pm_world.specs.Possible.{has_read}
+use Rattle.pm_world.specs.Possible.{host_has_read}
 use Rattle.pm_world.specs.Plans.{IsReadSince, held_at}
 
 -- the host had a good answer for the cell at one of the later of these events
@@ -75,7 +75,7 @@ AreKnownSince config passes part output wants events = (register : Reg) →
 -- the host had no good answer for a register that the part doesn't have, as under a guard of such a part
 abbrev pub MissingUnread : Config → ℕ → PartRegisters → ℕ → List Event → Type 0
 MissingUnread config passes part output events = (register : Reg) → has_register part register ≡ false →
-    has_read config passes (Out output register) events ≡ false
+    host_has_read config passes (Out output register) events ≡ false
 
 -- A band has one value, and it is this one.
 pub record IsOneValue (band : Band) (config : Config) (passes : ℕ) (events : List Event) (output : ℕ) : Type 0 where

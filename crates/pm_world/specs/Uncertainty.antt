@@ -13,7 +13,7 @@ use Rattle.pm_model.specs.Settings.{word_at}
 use Rattle.pm_device.specs.declared.config.Config.{Config}
 use Rattle.pm_device.specs.declared.output_start.OutputStart.{OutputStart}
 use Rattle.pm_device.specs.Held.{mode_for, shape_for}
-use Rattle.pm_device.specs.Start.{IsSound, start_of}
+use Rattle.pm_device.specs.Start.{IsSound, start_with_words}
 use Rattle.pm_host.specs.declared.command.Command.{Command}
 use Rattle.pm_host.specs.declared.command.Command.TheVariants.{ClearFaults, StoreUserAll, RestoreUserAll}
 use Rattle.pm_host.specs.declared.knowledge.Possible.{Possible}
@@ -33,7 +33,7 @@ use Rattle.pm_world.specs.declared.event.Event.TheVariants.{RestartHost}
 use Rattle.pm_world.specs.Confirmed.{restarts_converter}
 use Rattle.pm_world.specs.Life.{life, now}
 use Rattle.pm_world.specs.Possible.{restarts_host}
-use Rattle.pm_world.specs.Setup.{setup_fault}
+use Rattle.pm_world.specs.Setup.{world_fault}
 use Rattle.pm_world.specs.State.{State, HasWord, event_cause}
 
 -- nothing is against an event but perhaps that the world is full
@@ -113,7 +113,7 @@ pub record Leaves (config : Config) (passes : ℕ) (entries : List Entry) (chose
   where
     pub alike : IsLike config start
     pub sound : IsSound start
-    pub made : setup_fault start passes ≡ None
+    pub made : world_fault start passes ≡ None
     pub steady : AreSteady events
     pub legal : AreLegal start passes events
     pub told : (life start passes events).entries ≡ entries
@@ -137,7 +137,7 @@ due_before due (mark ∷ before) = due_before (due_at due mark) before
 
 -- the start with the same formats in which each output's cells have these words; WRITE_PROTECT has 00h
 abbrev pub start_with : Config → Choice → ℕ → OutputStart
-start_with config words output = start_of (mode_for config output) (λ register. words (Out output register))
+start_with config words output = start_with_words (mode_for config output) (λ register. words (Out output register))
 
 abbrev pub witness_start : Config → Choice → Config
 witness_start config words = record config {
@@ -146,8 +146,8 @@ witness_start config words = record config {
 }
 
 -- bytes that came back after these entries are a good answer to the request that was being sent
-abbrev pub is_good : Setup → List Entry → List ℕ → Bool
-is_good setup before bytes = option_map_or
+abbrev pub is_good_answer : Setup → List Entry → List ℕ → Bool
+is_good_answer setup before bytes = option_map_or
     (λ request. is_some (good_payload setup.addr request bytes)) (sending_of setup before) false
 
 -- the events that ask for a command, and for a job
@@ -167,17 +167,17 @@ job_event (host.Send command) = command_event command
 abbrev pub arrival_for : Bool → Arrival
 arrival_for good = if good then Whole else Cut 0
 
-abbrev pub event_of : Setup → List Entry → Entry → Event
-event_of setup before (Accepted job) = job_event job
-event_of setup before (Finished acked) = Finish acked
-event_of setup before (Got bytes) =
-    Exchange (arrival_for (is_good setup before bytes)) (Bytes (record { items = bytes }))
-event_of setup before Restarted = RestartHost
+abbrev pub event_of_entry : Setup → List Entry → Entry → Event
+event_of_entry setup before (Accepted job) = job_event job
+event_of_entry setup before (Finished acked) = Finish acked
+event_of_entry setup before (Got bytes) =
+    Exchange (arrival_for (is_good_answer setup before bytes)) (Bytes (record { items = bytes }))
+event_of_entry setup before Restarted = RestartHost
 
 -- the good answer for a cell that an entry is
-abbrev pub found : Setup → Entry → List Entry → List Mark
-found setup (Got bytes) before = goods setup before bytes
-found setup _ before = []
+abbrev pub marks_found : Setup → Entry → List Entry → List Mark
+marks_found setup (Got bytes) before = goods setup before bytes
+marks_found setup _ before = []
 
 -- a write of an output's cell is delivered where its word is due
 abbrev pub arrivals_of : Choice → List Mark → List Event
@@ -192,4 +192,4 @@ abbrev pub witness_events : Setup → Choice → List Entry → List Event
 witness_events setup due [] = []
 witness_events setup due (entry ∷ before) =
     arrivals_of due (puts setup (entry ∷ before))
-    ++ event_of setup before entry ∷ witness_events setup (due_before due (found setup entry before)) before
+    ++ event_of_entry setup before entry ∷ witness_events setup (due_before due (marks_found setup entry before)) before

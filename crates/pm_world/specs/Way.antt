@@ -54,24 +54,24 @@ abbrev pub finished_on : Way → Way
 finished_on (Sent cell word whole) = if whole then Written cell word else Off
 finished_on way = Off
 
-abbrev pub read_on : Way → Way
-read_on (Written cell word) = Through cell word
-read_on way = Off
+abbrev pub way_read_on : Way → Way
+way_read_on (Written cell word) = Through cell word
+way_read_on way = Off
 
 abbrev pub exchanged_on : Arrival → Back → Way → Way
-exchanged_on Whole back.Whole way = read_on way
+exchanged_on Whole back.Whole way = way_read_on way
 exchanged_on arrival back way = Off
 
 -- an event that asks for no job; what is none of these three is in between
-abbrev pub goes_on : State → Event → Way → Way
-goes_on s (Deliver arrival) way = delivered_on (hears_whole s.host arrival) way
-goes_on s (Finish acked) way = finished_on way
-goes_on s (Exchange arrival back) way = exchanged_on arrival back way
-goes_on s event way = Off
+abbrev pub way_goes_on : State → Event → Way → Way
+way_goes_on s (Deliver arrival) way = delivered_on (hears_whole s.host arrival) way
+way_goes_on s (Finish acked) way = finished_on way
+way_goes_on s (Exchange arrival back) way = exchanged_on arrival back way
+way_goes_on s event way = Off
 
 -- how far it has come after an event, by the world then
 abbrev pub way_after : State → Event → Way → Way
-way_after s event way = if is_some (asked_by event) then begun s s.host.stage else goes_on s event way
+way_after s event way = if is_some (asked_by event) then begun s s.host.stage else way_goes_on s event way
 
 -- how far the last order has come after some events
 unfoldable pub way_of : Config → ℕ → List Event → Way

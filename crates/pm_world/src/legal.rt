@@ -3,7 +3,7 @@
 
 ghost use Rattle.std.specs.Prelude.{◌≡◌, take};
 ghost use Rattle.pm_device.specs.Effect.{Hearing};
-ghost use Rattle.pm_device.specs.History.{next as device_next};
+ghost use Rattle.pm_device.specs.History.{device_next};
 ghost use Rattle.pm_device.specs.Reply.{reply_of};
 ghost use Rattle.pm_frame.specs.Layout.{AreBytes};
 ghost use Rattle.pm_world.specs.Legal.{heard_bytes as spec_heard_bytes, ending_of, back_bytes as spec_back_bytes, answer_in as spec_answer_in, is_heard_whole as spec_is_heard_whole, is_legal_hearing as spec_is_legal_hearing, is_legal_return as spec_is_legal_return};

@@ -14,7 +14,7 @@ ghost use Rattle.pm_world.specs.Life.{AreTaken, StopsAt, life, now, taken_events
 ghost use Rattle.pm_world.specs.Lived.{IsLived};
 ghost use Rattle.pm_world.specs.OpenLists.{is_other, closes as spec_closes, lists_other as spec_lists_other, follows_open, stays_open as spec_stays_open};
 ghost use Rattle.pm_world.specs.Possible.{restarts_host as spec_restarts_host};
-ghost use Rattle.pm_world.specs.Setup.{setup_fault, setup_of};
+ghost use Rattle.pm_world.specs.Setup.{world_fault, setup_of};
 ghost use Rattle.pm_world.specs.Uncertainty.{AreOpen, since_restart};
 
 use crate::cause::Stop;
@@ -35,7 +35,7 @@ pub fn run_open(
     passes: u8,
     events: &[Event],
 ) -> Result<(World, Option<Stop>, bool), SetupFault>
-    ensures fault { result_err result ≡ setup_fault c passes }
+    ensures fault { result_err result ≡ world_fault c passes }
     ensures now { IfOk result (λ run. run.0 ≡ now c passes (taken_events events.now run.1)) }
     ensures all { IfOk result (λ run. AreTaken c passes (taken_events events.now run.1)) }
     ensures lived { IfOk result (λ run. IsLived c passes (taken_events events.now run.1)) }

@@ -8,7 +8,7 @@ ghost use Rattle.pm_world.specs.Bytes.{CarryBytes, StartsShort};
 ghost use Rattle.pm_world.specs.Honest.{IsSpelled, is_whole as spec_is_whole};
 ghost use Rattle.pm_world.specs.Life.{AreTaken, StopsAt, now, taken_events};
 ghost use Rattle.pm_world.specs.Lived.{IsLived};
-ghost use Rattle.pm_world.specs.Setup.{setup_fault, setup_of};
+ghost use Rattle.pm_world.specs.Setup.{world_fault, setup_of};
 ghost use Rattle.pm_world.specs.Way.{begun as spec_begun, delivered_on, exchanged_on, finished_on, hears_whole as spec_hears_whole, way_after, way_of};
 
 use crate::cause::Stop;
@@ -125,7 +125,7 @@ pub fn run_way(
     passes: u8,
     events: &[Event],
 ) -> Result<(World, Option<Stop>, Way), SetupFault>
-    ensures fault { result_err result ≡ setup_fault c passes }
+    ensures fault { result_err result ≡ world_fault c passes }
     ensures now { IfOk result (λ run. run.0 ≡ now c passes (taken_events events.now run.1)) }
     ensures all { IfOk result (λ run. AreTaken c passes (taken_events events.now run.1)) }
     ensures lived { IfOk result (λ run. IsLived c passes (taken_events events.now run.1)) }

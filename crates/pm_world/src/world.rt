@@ -11,7 +11,7 @@ ghost use Rattle.pm_world.specs.GoodBus.{GoodFrames};
 ghost use Rattle.pm_world.specs.Honest.{AreFewFrames, FormatsAgree, IsSpelled, MicrosAreNearest, OrdersGoThrough};
 ghost use Rattle.pm_world.specs.Possible.{PossibleIsHeld, SeenIsTrue};
 ghost use Rattle.pm_world.specs.Lived.{IsLived};
-ghost use Rattle.pm_world.specs.Setup.{setup_of, start, setup_fault};
+ghost use Rattle.pm_world.specs.Setup.{setup_of, world_start, world_fault};
 ghost use Rattle.pm_world.specs.Life.{AreTaken, AreTakenFrom, StopsAt, StopsFrom, after_all, found_by, life, now, taken_events};
 ghost use Rattle.pm_world.specs.Job.{asked_by};
 ghost use Rattle.pm_world.specs.Limited.{StaysLimited};
@@ -73,15 +73,15 @@ impl Model for World {
 impl World {
     /// A world whose two ends start: a converter of this configuration, and a host for its address
     /// and its outputs, with this number of passes. The converter's fault comes before the host's.
-    #[tactic(auto, unfolding(crate::specs::Setup::start, crate::specs::Setup::setup_fault))]
+    #[tactic(auto, unfolding(crate::specs::Setup::world_start, crate::specs::Setup::world_fault))]
     pub fn new(c: Config, passes: u8) -> Result<World, SetupFault>
-        ensures made { IfOk result (λ world. world ≡ start c passes) }
+        ensures made { IfOk result (λ world. world ≡ world_start c passes) }
         ensures taken { IfOk result (λ world. world.taken ≡ 0) }
         ensures config { IfOk result (λ world. world.device.config ≡ c) }
         ensures setup { IfOk result (λ world. world.host.setup ≡ setup_of c passes) }
         ensures sound { OnOk result (IsSound c × IsSetup (setup_of c passes) × IsSpelled c) }
         ensures short { OnOk result (StartsShort c) }
-        ensures fault { result_err result ≡ setup_fault c passes }
+        ensures fault { result_err result ≡ world_fault c passes }
     {
         spell(c); // law: a configuration's numbers fit into bytes
         let device = Converter::new(c)?;
@@ -137,7 +137,7 @@ impl World {
     ///   carry are bytes, and words of two, and from `short`, that the start words have two.
     /// - `sound`: what the laws ask, by which all this is had of further calls of [`World::step`] too.
     pub fn run(c: Config, passes: u8, events: &[Event]) -> Result<(World, Option<Stop>), SetupFault>
-        ensures fault { result_err result ≡ setup_fault c passes }
+        ensures fault { result_err result ≡ world_fault c passes }
         ensures config { IfOk result (λ run. run.0.device.config ≡ c) }
         ensures setup { IfOk result (λ run. run.0.host.setup ≡ setup_of c passes) }
         ensures now { IfOk result (λ run.
@@ -204,7 +204,7 @@ impl World {
 
     // A new world, and its life up to the first event that isn't taken.
     fn lived(c: Config, passes: u8, events: &[Event]) -> Result<(World, Option<Stop>), SetupFault>
-        ensures fault { result_err result ≡ setup_fault c passes }
+        ensures fault { result_err result ≡ world_fault c passes }
         ensures config { IfOk result (λ run. run.0.device.config ≡ c) }
         ensures setup { IfOk result (λ run. run.0.host.setup ≡ setup_of c passes) }
         ensures sound { OnOk result (IsSound c × IsSetup (setup_of c passes) × IsSpelled c) }

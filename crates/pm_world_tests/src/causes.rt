@@ -9,14 +9,9 @@ use pm_device::{Config, ConfigFault, OutputStart};
 use pm_host::{HostFault, JobEnd, Standing};
 use pm_num::NumFault;
 use pm_table::{Cell, Coefficients, Reg, TableFault};
+use pm_world::Cause::{NotBetrayed as S1, NothingSent as S2, WrongKind as S3};
 use pm_world::{Cause, Event, SetupFault, World};
 use std::process::Abort;
-
-const S1: Cause = Cause::NotBetrayed;
-
-const S2: Cause = Cause::NothingSent;
-
-const S3: Cause = Cause::WrongKind;
 
 const S4_BUSY: Cause = Cause::Host(HostFault::Busy);
 
@@ -60,13 +55,10 @@ static WRITING: [(Bus, Cause); 5] = [
     (Bus::Deliver(OTHER), S1),
 ];
 
+#[rattlefmt::skip]
 static READING: [(Bus, Cause); 7] = [
-    (Bus::Deliver("whole"), S3),
-    (Bus::Deliver("cut 0"), S3),
-    (Bus::Deliver(OTHER), S3),
-    (Bus::Finish(true), S3),
-    (Bus::Finish(false), S3),
-    (Bus::Exchange(OTHER, "whole"), S1),
+    (Bus::Deliver("whole"), S3), (Bus::Deliver("cut 0"), S3), (Bus::Deliver(OTHER), S3),
+    (Bus::Finish(true), S3), (Bus::Finish(false), S3), (Bus::Exchange(OTHER, "whole"), S1),
     (Bus::Exchange("whole", OTHER_ANSWER), S1),
 ];
 
@@ -102,24 +94,18 @@ fn an_event_that_is_not_taken_has_its_first_cause(rt: HostRuntime) -> Result<(),
 }
 
 // What arrives of the order of 34CDh: the cause against it, or the word and STATUS_CML afterwards.
+#[rattlefmt::skip]
 static HEARINGS: [(&str, Result<(u16, u8), Cause>); 20] = [
-    ("whole", Ok((0x34CD, 0x00))),
-    ("cut 8", Ok((0x34CD, 0x00))),
-    ("cut 255", Ok((0x34CD, 0x00))),
-    ("cut 7", Ok((0x1000, 0x02))),
-    ("cut 0", Ok((0x1000, 0x00))),
+    ("whole", Ok((0x34CD, 0x00))), ("cut 8", Ok((0x34CD, 0x00))), ("cut 255", Ok((0x34CD, 0x00))),
+    ("cut 7", Ok((0x1000, 0x02))), ("cut 0", Ok((0x1000, 0x00))),
     ("stop: B0 05 04 00 21 CD 34 5A", Ok((0x34CD, 0x00))),
     ("stop: B0 05 04 00 21 CD 34", Ok((0x1000, 0x02))),
     ("stop: B0 05 04 00 21 CD 34 5B", Ok((0x1000, 0x20))),
     ("stop: B0 05 04 00 21 CD 34 5A FF", Ok((0x1000, 0x02))),
-    ("stop: B0 21 CD 34 FF", Ok((0x1000, 0x20))),
-    ("stop: ", Ok((0x1000, 0x00))),
-    ("stop: 01", Ok((0x1000, 0x00))),
-    ("stop: 00", Err(S1)),
-    ("stop: B0 05 04 01 21 CD 34 4C", Err(S1)),
-    ("stop: B0 21 CD 34 38", Err(S1)),
-    ("stop: B0 03 46", Err(S1)),
-    ("stop: B0 05 04 00 21 CD 34 5A 00", Err(S1)),
+    ("stop: B0 21 CD 34 FF", Ok((0x1000, 0x20))), ("stop: ", Ok((0x1000, 0x00))),
+    ("stop: 01", Ok((0x1000, 0x00))), ("stop: 00", Err(S1)),
+    ("stop: B0 05 04 01 21 CD 34 4C", Err(S1)), ("stop: B0 21 CD 34 38", Err(S1)),
+    ("stop: B0 03 46", Err(S1)), ("stop: B0 05 04 00 21 CD 34 5A 00", Err(S1)),
     ("restart: B0 05 04 00 21 CD 34 5A", Ok((0x1000, 0x80))),
     ("restart: B0 05 04 01 21 CD 34 4C", Ok((0x1000, 0x80))),
     ("restart: B0 06 02 00 21", Ok((0x1000, 0x00))),
@@ -154,14 +140,6 @@ fn arrives(
     holds(rt, &world, held)
 }
 
-#[test]
-fn a_write_is_heard_as_it_arrives(rt: HostRuntime) -> Result<(), SetupFault> {
-    for (heard, wanted) in &HEARINGS {
-        arrives(&rt, heard, *wanted)?;
-    }
-    Ok(())
-}
-
 type Outcome = Result<(Option<JobEnd>, u8), Cause>;
 
 // A good answer.
@@ -180,35 +158,21 @@ type Return = (&'static str, &'static str, Outcome);
 
 // What arrives of a check's request, and what comes back: the cause against it, or the job's end, if
 // it has one, and STATUS_CML afterwards.
+#[rattlefmt::skip]
 static RETURNS: [Return; 28] = [
-    ("whole", "whole", DONE),
-    ("whole", "cut 5", DONE),
-    ("whole", "cut 255", DONE),
-    ("whole", "B1 02 00 10 41", DONE),
-    ("restart: B0 06 02 00 21", "whole", DONE),
+    ("whole", "whole", DONE), ("whole", "cut 5", DONE), ("whole", "cut 255", DONE),
+    ("whole", "B1 02 00 10 41", DONE), ("restart: B0 06 02 00 21", "whole", DONE),
     ("restart: B0 06 02 00 21", "B1 02 00 10 41", DONE),
-    ("whole", "cut 4", NONE),
-    ("whole", "cut 0", NONE),
-    ("whole", "B1 02 00 0B", NONE),
-    ("whole", "B1 02 00 10 40", NONE),
-    ("whole", "B1 02 00 10 68", NONE),
-    ("whole", "B1 02 00 10 28", NONE),
-    ("whole", "B1 02 00 10 41 FF", NONE),
-    ("cut 5", "whole", NO_PEC),
-    ("cut 255", "whole", NO_PEC),
-    ("cut 3", "whole", NO_PEC),
-    ("cut 2", "whole", SHORT),
-    ("cut 0", "whole", NONE),
-    ("stop: B0 06 02 00 21", "whole", NO_PEC),
-    ("restart: B0 06 02 01 21", "whole", NONE),
-    ("restart: B0 06 02 02 21", "whole", BAD_PAGE),
-    ("stop: B0 21 CD 34 38", "whole", Err(S1)),
-    ("cut 5", "B1 02 00 10 41", Err(S1)),
+    ("whole", "cut 4", NONE), ("whole", "cut 0", NONE), ("whole", "B1 02 00 0B", NONE),
+    ("whole", "B1 02 00 10 40", NONE), ("whole", "B1 02 00 10 68", NONE),
+    ("whole", "B1 02 00 10 28", NONE), ("whole", "B1 02 00 10 41 FF", NONE),
+    ("cut 5", "whole", NO_PEC), ("cut 255", "whole", NO_PEC), ("cut 3", "whole", NO_PEC),
+    ("cut 2", "whole", SHORT), ("cut 0", "whole", NONE), ("stop: B0 06 02 00 21", "whole", NO_PEC),
+    ("restart: B0 06 02 01 21", "whole", NONE), ("restart: B0 06 02 02 21", "whole", BAD_PAGE),
+    ("stop: B0 21 CD 34 38", "whole", Err(S1)), ("cut 5", "B1 02 00 10 41", Err(S1)),
     ("restart: B0 06 02 01 21", "B1 02 00 10 41", Err(S1)),
-    ("whole", "B1 02 CD 34 B9", Err(S1)),
-    ("whole", "B1 02 00 10 00 C0", Err(S1)),
-    ("whole", "B1 01 00 10 FC", Err(S1)),
-    ("whole", "B0 02 00 10 57", Err(S1)),
+    ("whole", "B1 02 CD 34 B9", Err(S1)), ("whole", "B1 02 00 10 00 C0", Err(S1)),
+    ("whole", "B1 01 00 10 FC", Err(S1)), ("whole", "B0 02 00 10 57", Err(S1)),
 ];
 
 fn comes_back(rt: &impl Abort, heard: &str, came: &str, wanted: Outcome) -> Result<(), SetupFault> {
@@ -231,9 +195,10 @@ fn comes_back(rt: &impl Abort, heard: &str, came: &str, wanted: Outcome) -> Resu
 }
 
 #[test]
-fn a_request_is_heard_as_it_arrives_and_its_answer_as_it_comes_back(
-    rt: HostRuntime,
-) -> Result<(), SetupFault> {
+fn writes_requests_and_answers_are_heard_as_they_arrive(rt: HostRuntime) -> Result<(), SetupFault> {
+    for (heard, wanted) in &HEARINGS {
+        arrives(&rt, heard, *wanted)?;
+    }
     for (heard, came, wanted) in &RETURNS {
         comes_back(&rt, heard, came, *wanted)?;
     }
@@ -262,11 +227,7 @@ const V5: Option<ConfigFault> = Some(ConfigFault::BadCoefficients(NumFault::Zero
 // The configuration of a row.
 fn configured(row: Setup) -> Config {
     let (count, operation, protect, addr, mode, m, _) = row;
-    let start = OutputStart {
-        mode,
-        operation,
-        ..OUTPUT
-    };
+    let start = with! { OutputStart, OUTPUT; mode, operation };
     Config {
         addr,
         count,

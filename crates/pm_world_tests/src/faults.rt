@@ -11,23 +11,12 @@ use std::fmt::Display;
 use std::process::Abort;
 use std::test::Fail;
 
+#[rattlefmt::skip]
 static DEVICE: [(DeviceFault, &str); 10] = [
-    (
-        DeviceFault::Frame(FrameFault::Short(7)),
-        "K1 Frame F2 Short 7",
-    ),
-    (
-        DeviceFault::Frame(FrameFault::Long(5)),
-        "K1 Frame F3 Long 5",
-    ),
-    (
-        DeviceFault::Frame(FrameFault::WrongCount(2)),
-        "K1 Frame F4 WrongCount 2",
-    ),
-    (
-        DeviceFault::Frame(FrameFault::WrongPec(3)),
-        "K1 Frame F5 WrongPec 3",
-    ),
+    (DeviceFault::Frame(FrameFault::Short(7)), "K1 Frame F2 Short 7"),
+    (DeviceFault::Frame(FrameFault::Long(5)), "K1 Frame F3 Long 5"),
+    (DeviceFault::Frame(FrameFault::WrongCount(2)), "K1 Frame F4 WrongCount 2"),
+    (DeviceFault::Frame(FrameFault::WrongPec(3)), "K1 Frame F5 WrongPec 3"),
     (DeviceFault::UnsupportedCode, "K2 UnsupportedCode"),
     (DeviceFault::UnsupportedData, "K3 UnsupportedData"),
     (DeviceFault::BadPage, "K4 BadPage"),
@@ -36,41 +25,18 @@ static DEVICE: [(DeviceFault, &str); 10] = [
     (DeviceFault::ReadOnly, "K7 ReadOnly"),
 ];
 
+#[rattlefmt::skip]
 static CONFIG: [(ConfigFault, &str); 10] = [
     (ConfigFault::OutputCount, "V1 OutputCount"),
-    (
-        ConfigFault::BadStart(Cell::Out(0, Reg::Operation)),
-        "V2 BadStart 0 OPERATION",
-    ),
-    (
-        ConfigFault::BadStart(Cell::Protect),
-        "V2 BadStart WRITE_PROTECT",
-    ),
+    (ConfigFault::BadStart(Cell::Out(0, Reg::Operation)), "V2 BadStart 0 OPERATION"),
+    (ConfigFault::BadStart(Cell::Protect), "V2 BadStart WRITE_PROTECT"),
     (ConfigFault::Address, "V3 Address"),
-    (
-        ConfigFault::BadMode(3, TableFault::VidMode),
-        "V4 BadMode 3 C1 VidMode",
-    ),
-    (
-        ConfigFault::BadMode(0, TableFault::HalfMode),
-        "V4 BadMode 0 C2 HalfMode",
-    ),
-    (
-        ConfigFault::BadMode(7, TableFault::RelativeMode),
-        "V4 BadMode 7 C3 RelativeMode",
-    ),
-    (
-        ConfigFault::BadMode(1, TableFault::BadParameter),
-        "V4 BadMode 1 C4 BadParameter",
-    ),
-    (
-        ConfigFault::BadCoefficients(NumFault::ZeroSlope),
-        "V5 BadCoefficients N1 ZeroSlope",
-    ),
-    (
-        ConfigFault::BadCoefficients(NumFault::ExponentRange),
-        "V5 BadCoefficients N2 ExponentRange",
-    ),
+    (ConfigFault::BadMode(3, TableFault::VidMode), "V4 BadMode 3 C1 VidMode"),
+    (ConfigFault::BadMode(0, TableFault::HalfMode), "V4 BadMode 0 C2 HalfMode"),
+    (ConfigFault::BadMode(7, TableFault::RelativeMode), "V4 BadMode 7 C3 RelativeMode"),
+    (ConfigFault::BadMode(1, TableFault::BadParameter), "V4 BadMode 1 C4 BadParameter"),
+    (ConfigFault::BadCoefficients(NumFault::ZeroSlope), "V5 BadCoefficients N1 ZeroSlope"),
+    (ConfigFault::BadCoefficients(NumFault::ExponentRange), "V5 BadCoefficients N2 ExponentRange"),
 ];
 
 static HOST: [(HostFault, &str); 10] = [
@@ -86,15 +52,12 @@ static HOST: [(HostFault, &str); 10] = [
     (HostFault::Num(NumFault::TooLarge), "N5 TooLarge"),
 ];
 
+#[rattlefmt::skip]
 static CAUSES: [(Cause, &str); 6] = [
-    (Cause::NotBetrayed, "S1 NotBetrayed"),
-    (Cause::NothingSent, "S2 NothingSent"),
+    (Cause::NotBetrayed, "S1 NotBetrayed"), (Cause::NothingSent, "S2 NothingSent"),
     (Cause::WrongKind, "S3 WrongKind"),
     (Cause::Host(HostFault::Busy), "S4 Host H3 Busy"),
-    (
-        Cause::Host(HostFault::Num(NumFault::TooLarge)),
-        "S4 Host N5 TooLarge",
-    ),
+    (Cause::Host(HostFault::Num(NumFault::TooLarge)), "S4 Host N5 TooLarge"),
     (Cause::Full, "S5 Full"),
 ];
 

@@ -5,6 +5,14 @@
 
 ghost use Rattle.std.specs.Prelude.{IsTrue};
 
+/// A struct with these fields, whose others are those of another one: `with! { Part, PART; silent: true }`.
+#[cfg(test)]
+macro_rules! with {
+    ($type:ident, $base:expr; $($field:ident $(: $value:expr)?),+) => {
+        $type { $($field $(: $value)?,)+ ..$base }
+    };
+}
+
 #[cfg(test)]
 mod bursts;
 #[cfg(test)]

@@ -4,7 +4,7 @@ ghost use Rattle.std.specs.Prelude.{◌≡◌};
 
 use crate::checks::{equal, is_true};
 use crate::watch::ordered;
-use crate::{ACKED, Look, NOT_ACKED, READ, WHOLE};
+use crate::{ACKED, Look, NOT_ACKED, ORDER, READ, WHOLE};
 use pm_core_tests::{CELLS, FIRST, SECOND, START};
 use pm_model::{OrderMachine, PendingJob, Plain};
 use pm_table::Cell;
@@ -75,77 +75,40 @@ fn follow(rt: &impl Abort, rows: &[(Event, Told)]) -> Result<(), SetupFault> {
     Ok(())
 }
 
+const TAKEN: (Event, Told) = (ORDER, Told::Accept(FIRST, 0x34CD));
+
+const RESTARTED: (Event, Told) = (Event::RestartDevice, Told::Back);
+
 #[test]
 fn an_order_takes_at_each_whole_delivery(rt: HostRuntime) -> Result<(), SetupFault> {
     let nothing = Told::Nothing;
-    let first = (Event::Order(FIRST, 0x34CD), Told::Accept(FIRST, 0x34CD));
     let second = (Event::Order(SECOND, 0x2000), Told::Accept(SECOND, 0x2000));
-    let rows = [
-        first,
-        (WHOLE, Told::Take),
-        (ACKED, nothing),
-        (READ, Told::End),
-        second,
-        (CUT, nothing),
-        (ACKED, nothing),
-        (READ, nothing),
-        (WHOLE, Told::Take),
-        (WHOLE, Told::Take),
-        (NOT_ACKED, nothing),
-        (CUT_READ, Told::End),
-    ];
-    follow(&rt, &rows)
-}
-
-#[test]
-fn start_words_come_back_and_the_order_goes_on(rt: HostRuntime) -> Result<(), SetupFault> {
-    let nothing = Told::Nothing;
-    let order = (Event::Order(FIRST, 0x34CD), Told::Accept(FIRST, 0x34CD));
+    let blocked = (Event::Order(SECOND, 0x34CD), Told::Accept(SECOND, 0x34CD));
     let micro = (
         Event::OrderMicro(FIRST, 2_000_000),
         Told::Accept(FIRST, 0x2000),
     );
-    let rows = [
-        order,
-        (WHOLE, Told::Take),
-        (Event::RestartDevice, Told::Back),
-        (WHOLE, Told::Take),
-        (Event::RestartHost, Told::End),
-        (Event::Clear(1), nothing),
-        (WHOLE, nothing),
-        (ACKED, nothing),
-        (Event::Learn(0), nothing),
-        (READ, nothing),
-        micro,
-        (WHOLE, Told::Take),
-        (ACKED, nothing),
-        (Event::RestartDevice, Told::Back),
-        (READ, nothing),
-    ];
-    follow(&rt, &rows)
-}
-
-#[test]
-fn a_blocked_order_takes_after_a_restart(rt: HostRuntime) -> Result<(), SetupFault> {
-    let nothing = Told::Nothing;
     let protect = (
         Event::Order(Cell::Protect, 0x40),
         Told::Accept(Cell::Protect, 0x40),
     );
-    let order = (Event::Order(SECOND, 0x34CD), Told::Accept(SECOND, 0x34CD));
-    let rows = [
-        protect,
-        (WHOLE, Told::Take),
-        (ACKED, nothing),
-        (READ, Told::End),
-        order,
-        (WHOLE, nothing),
-        (ACKED, nothing),
-        (READ, nothing),
-        (Event::RestartDevice, Told::Back),
-        (WHOLE, Told::Take),
-        (ACKED, nothing),
-        (READ, Told::End),
+    #[rattlefmt::skip]
+    let rows: [&[(Event, Told)]; 3] = [
+        &[TAKEN, (WHOLE, Told::Take), (ACKED, nothing), (READ, Told::End), second, (CUT, nothing),
+            (ACKED, nothing), (READ, nothing), (WHOLE, Told::Take), (WHOLE, Told::Take),
+            (NOT_ACKED, nothing), (CUT_READ, Told::End)],
+        // Start words come back, and the order goes on.
+        &[TAKEN, (WHOLE, Told::Take), RESTARTED, (WHOLE, Told::Take),
+            (Event::RestartHost, Told::End), (Event::Clear(1), nothing), (WHOLE, nothing),
+            (ACKED, nothing), (Event::Learn(0), nothing), (READ, nothing), micro,
+            (WHOLE, Told::Take), (ACKED, nothing), RESTARTED, (READ, nothing)],
+        // A blocked order takes after a restart.
+        &[protect, (WHOLE, Told::Take), (ACKED, nothing), (READ, Told::End), blocked,
+            (WHOLE, nothing), (ACKED, nothing), (READ, nothing), RESTARTED, (WHOLE, Told::Take),
+            (ACKED, nothing), (READ, Told::End)],
     ];
-    follow(&rt, &rows)
+    for events in rows {
+        follow(&rt, events)?;
+    }
+    Ok(())
 }

@@ -18,13 +18,9 @@ static WORDS: [u16; 6] = [0x0000, 0x0010, 0x0100, 0x7000, 0x8000, 0xFFF0];
 // Off, on, and on at either margin.
 static BYTES: [u16; 4] = [0x00, 0x80, 0xA8, 0x94];
 
+#[rattlefmt::skip]
 static REGISTERS: [Reg; 6] = [
-    Reg::Operation,
-    Reg::VoutCommand,
-    Reg::VoutMax,
-    Reg::MarginHigh,
-    Reg::MarginLow,
-    Reg::VoutMin,
+    Reg::Operation, Reg::VoutCommand, Reg::VoutMax, Reg::MarginHigh, Reg::MarginLow, Reg::VoutMin,
 ];
 
 // How a plan ends.
@@ -172,10 +168,7 @@ fn goal(
         low: word(Reg::MarginLow),
         min: word(Reg::VoutMin),
     };
-    let config = Config {
-        starts: [start; 8],
-        ..*config
-    };
+    let config = with! { Config, *config; starts: [start; 8] };
     let other = World::begin(config, 2)?;
     Ok(commands(&other, 0))
 }

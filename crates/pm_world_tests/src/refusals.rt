@@ -6,20 +6,14 @@ use crate::look::Look;
 use crate::{ACKED, CHECK, NOT_ACKED, READ, READ_LOST};
 use pm_core_tests::{FIRST, SECOND};
 use pm_host::HostFault;
+use pm_host::HostFault::{
+    BadWord as H5, Busy as H3, FormatUnknown as H7, TooUncertain as H6, UnknownOutput as H4,
+};
 use pm_num::NumFault;
 use pm_table::{Cell, Reg};
+use pm_world::Event::{Check, Clear, Learn, Order, OrderMicro};
 use pm_world::{Cause, Event, SetupFault, World};
 use std::process::Abort;
-
-const H3: HostFault = HostFault::Busy;
-
-const H4: HostFault = HostFault::UnknownOutput;
-
-const H5: HostFault = HostFault::BadWord;
-
-const H6: HostFault = HostFault::TooUncertain;
-
-const H7: HostFault = HostFault::FormatUnknown;
 
 const N3: HostFault = HostFault::Num(NumFault::BelowLeast);
 
@@ -40,98 +34,76 @@ const FAR: i64 = 1_000_000_000_000_001;
 type Row = (Event, HostFault);
 
 // While no job is open and no format was learned.
+#[rattlefmt::skip]
 const IDLE: [Row; 22] = [
-    (Event::Order(NO_COMMAND, 0x1000), H4),
-    (Event::Order(NO_OPERATION, 0xB0), H4),
-    (Event::Order(Cell::Out(255, Reg::MarginLow), 0), H4),
-    (Event::Order(OPERATION, 0xB0), H5),
-    (Event::Order(OPERATION, 0x180), H5),
-    (Event::Order(Cell::Out(1, Reg::Operation), 0xFF), H5),
-    (Event::Order(Cell::Protect, 0x60), H5),
-    (Event::Order(Cell::Protect, 0x140), H5),
-    (Event::OrderMicro(NO_COMMAND, 0), H4),
-    (Event::OrderMicro(NO_COMMAND, FAR), H4),
-    (Event::OrderMicro(NO_OPERATION, 0), H4),
-    (Event::OrderMicro(OPERATION, 0), H5),
-    (Event::OrderMicro(OPERATION, FAR), H5),
-    (Event::OrderMicro(Cell::Protect, 0), H5),
-    (Event::OrderMicro(FIRST, 3_300_000), H7),
-    (Event::OrderMicro(FIRST, -1), H7),
-    (Event::OrderMicro(FIRST, FAR), H7),
-    (Event::Check(NO_COMMAND), H4),
-    (Event::Learn(2), H4),
-    (Event::Learn(255), H4),
-    (Event::Clear(2), H4),
-    (Event::Clear(255), H4),
+    (Order(NO_COMMAND, 0x1000), H4), (Order(NO_OPERATION, 0xB0), H4),
+    (Order(Cell::Out(255, Reg::MarginLow), 0), H4),
+    (Order(OPERATION, 0xB0), H5), (Order(OPERATION, 0x180), H5),
+    (Order(Cell::Out(1, Reg::Operation), 0xFF), H5),
+    (Order(Cell::Protect, 0x60), H5), (Order(Cell::Protect, 0x140), H5),
+    (OrderMicro(NO_COMMAND, 0), H4), (OrderMicro(NO_COMMAND, FAR), H4),
+    (OrderMicro(NO_OPERATION, 0), H4), (OrderMicro(OPERATION, 0), H5),
+    (OrderMicro(OPERATION, FAR), H5), (OrderMicro(Cell::Protect, 0), H5),
+    (OrderMicro(FIRST, 3_300_000), H7), (OrderMicro(FIRST, -1), H7),
+    (OrderMicro(FIRST, FAR), H7), (Check(NO_COMMAND), H4), (Learn(2), H4),
+    (Learn(255), H4), (Clear(2), H4), (Clear(255), H4),
 ];
 
 // While no job is open and the format of output 0 is known, ULINEAR16 with N = -12.
+#[rattlefmt::skip]
 const LEARNED: [Row; 14] = [
-    (Event::OrderMicro(FIRST, -1), N3),
-    (Event::OrderMicro(FIRST, -1_000_000_000_000_000), N3),
-    (Event::OrderMicro(FIRST, -FAR), N5),
-    (Event::OrderMicro(FIRST, i64::MIN), N5),
-    (Event::OrderMicro(FIRST, 16_000_000), N4),
-    (Event::OrderMicro(FIRST, 1_000_000_000_000_000), N4),
-    (Event::OrderMicro(FIRST, FAR), N5),
-    (Event::OrderMicro(FIRST, i64::MAX), N5),
-    (Event::OrderMicro(SECOND, 3_300_000), H7),
-    (Event::OrderMicro(NO_COMMAND, 3_300_000), H4),
-    (Event::OrderMicro(OPERATION, FAR), H5),
-    (Event::OrderMicro(OPERATION, -1), H5),
-    (Event::OrderMicro(OPERATION, 16_000_000), H5),
-    (Event::OrderMicro(Cell::Protect, 0), H5),
+    (OrderMicro(FIRST, -1), N3),
+    (OrderMicro(FIRST, -1_000_000_000_000_000), N3),
+    (OrderMicro(FIRST, -FAR), N5), (OrderMicro(FIRST, i64::MIN), N5),
+    (OrderMicro(FIRST, 16_000_000), N4),
+    (OrderMicro(FIRST, 1_000_000_000_000_000), N4),
+    (OrderMicro(FIRST, FAR), N5), (OrderMicro(FIRST, i64::MAX), N5),
+    (OrderMicro(SECOND, 3_300_000), H7), (OrderMicro(NO_COMMAND, 3_300_000), H4),
+    (OrderMicro(OPERATION, FAR), H5), (OrderMicro(OPERATION, -1), H5),
+    (OrderMicro(OPERATION, 16_000_000), H5), (OrderMicro(Cell::Protect, 0), H5),
 ];
 
 // While a check is open, and nothing is known.
+#[rattlefmt::skip]
 const BUSY: [Row; 16] = [
-    (Event::Order(SECOND, 0x1000), H3),
-    (Event::Order(NO_COMMAND, 0x1000), H3),
-    (Event::Order(OPERATION, 0xB0), H3),
-    (Event::Order(Cell::Protect, 0x60), H3),
-    (Event::OrderMicro(FIRST, 3_300_000), H3),
-    (Event::OrderMicro(NO_COMMAND, 0), H3),
-    (Event::OrderMicro(OPERATION, 0), H3),
-    (Event::OrderMicro(Cell::Protect, 0), H3),
-    (Event::Check(FIRST), H3),
-    (Event::Check(Cell::Protect), H3),
-    (Event::Check(NO_COMMAND), H3),
-    (Event::Learn(0), H3),
-    (Event::Learn(2), H3),
-    (Event::Clear(0), H3),
-    (Event::Clear(2), H3),
-    (Event::Clear(255), H3),
+    (Order(SECOND, 0x1000), H3), (Order(NO_COMMAND, 0x1000), H3),
+    (Order(OPERATION, 0xB0), H3), (Order(Cell::Protect, 0x60), H3),
+    (OrderMicro(FIRST, 3_300_000), H3), (OrderMicro(NO_COMMAND, 0), H3),
+    (OrderMicro(OPERATION, 0), H3), (OrderMicro(Cell::Protect, 0), H3),
+    (Check(FIRST), H3), (Check(Cell::Protect), H3), (Check(NO_COMMAND), H3),
+    (Learn(0), H3), (Learn(2), H3), (Clear(0), H3), (Clear(2), H3),
+    (Clear(255), H3),
 ];
 
 // While output 0's VOUT_COMMAND may hold 16 words, and its format is known; then in a check too, and
 // while the format isn't known.
 const FULL: [Row; 5] = [
-    (Event::Order(FIRST, 0x2010), H6),
-    (Event::OrderMicro(FIRST, 3_300_000), H6),
-    (Event::OrderMicro(FIRST, -1), N3),
-    (Event::OrderMicro(FIRST, 16_000_000), N4),
-    (Event::OrderMicro(FIRST, FAR), N5),
+    (Order(FIRST, 0x2010), H6),
+    (OrderMicro(FIRST, 3_300_000), H6),
+    (OrderMicro(FIRST, -1), N3),
+    (OrderMicro(FIRST, 16_000_000), N4),
+    (OrderMicro(FIRST, FAR), N5),
 ];
 
 const FULL_AND_BUSY: [Row; 5] = [
-    (Event::Order(FIRST, 0x2010), H3),
-    (Event::OrderMicro(FIRST, 3_300_000), H3),
-    (Event::OrderMicro(FIRST, -1), H3),
-    (Event::OrderMicro(FIRST, 16_000_000), H3),
-    (Event::OrderMicro(FIRST, FAR), H3),
+    (Order(FIRST, 0x2010), H3),
+    (OrderMicro(FIRST, 3_300_000), H3),
+    (OrderMicro(FIRST, -1), H3),
+    (OrderMicro(FIRST, 16_000_000), H3),
+    (OrderMicro(FIRST, FAR), H3),
 ];
 
 const FULL_UNLEARNED: [Row; 2] = [
-    (Event::Order(FIRST, 0x2010), H6),
-    (Event::OrderMicro(FIRST, 3_300_000), H7),
+    (Order(FIRST, 0x2010), H6),
+    (OrderMicro(FIRST, 3_300_000), H7),
 ];
 
 // While output 0's OPERATION may hold 16 words.
 const FULL_OPERATION: [Row; 4] = [
-    (Event::Order(OPERATION, 0x4F), H6),
-    (Event::Order(OPERATION, 0xB0), H5),
-    (Event::OrderMicro(OPERATION, 0), H5),
-    (Event::OrderMicro(OPERATION, FAR), H5),
+    (Order(OPERATION, 0x4F), H6),
+    (Order(OPERATION, 0xB0), H5),
+    (OrderMicro(OPERATION, 0), H5),
+    (OrderMicro(OPERATION, FAR), H5),
 ];
 
 fn refuses(rt: &impl Abort, world: &mut World, rows: &[Row]) {
@@ -144,9 +116,9 @@ fn refuses(rt: &impl Abort, world: &mut World, rows: &[Row]) {
 // Reads a cell, then orders these words of it one after another, each without an answer, in a world
 // of one pass.
 fn fill(rt: &impl Abort, world: &mut World, cell: Cell, words: [u16; 15]) {
-    takes(rt, world, &[Event::Check(cell), READ]);
+    takes(rt, world, &[Check(cell), READ]);
     for word in words {
-        let order = Event::Order(cell, word);
+        let order = Order(cell, word);
         takes(rt, world, &[order, NOT_ACKED, READ_LOST]);
     }
 }
@@ -166,14 +138,14 @@ fn each_refusal_comes_before_those_after_it(rt: HostRuntime) -> Result<(), Setup
     refuses(&rt, &mut idle, &IDLE);
     takes(&rt, &mut idle, &[CHECK]);
     refuses(&rt, &mut idle, &BUSY);
-    let mut learned = after(&rt, World::base(), 2, &[Event::Learn(0), READ])?;
+    let mut learned = after(&rt, World::base(), 2, &[Learn(0), READ])?;
     refuses(&rt, &mut learned, &LEARNED);
     Ok(())
 }
 
 #[test]
 fn a_full_list_is_refused_before_what_comes_after_it(rt: HostRuntime) -> Result<(), SetupFault> {
-    let mut full = after(&rt, World::base(), 1, &[Event::Learn(0), READ])?;
+    let mut full = after(&rt, World::base(), 1, &[Learn(0), READ])?;
     fill(&rt, &mut full, FIRST, WORDS);
     refuses(&rt, &mut full, &FULL);
     takes(&rt, &mut full, &[CHECK]);
@@ -190,19 +162,15 @@ fn a_full_list_is_refused_before_what_comes_after_it(rt: HostRuntime) -> Result<
 // Any of the 16 words is accepted again, also in microvolts, and any word of another cell.
 #[test]
 fn a_word_that_is_possible_is_accepted(rt: HostRuntime) -> Result<(), SetupFault> {
-    let mut world = after(&rt, World::base(), 1, &[Event::Learn(0), READ])?;
+    let mut world = after(&rt, World::base(), 1, &[Learn(0), READ])?;
     fill(&rt, &mut world, FIRST, WORDS);
     for word in [0x1000].into_iter().chain(WORDS) {
-        let order = Event::Order(FIRST, word);
+        let order = Order(FIRST, word);
         takes(&rt, &mut world, &[order, NOT_ACKED, READ_LOST]);
     }
-    let micro = Event::OrderMicro(FIRST, 1_000_000);
+    let micro = OrderMicro(FIRST, 1_000_000);
     takes(&rt, &mut world, &[micro, NOT_ACKED, READ_LOST]);
-    takes(
-        &rt,
-        &mut world,
-        &[Event::Order(SECOND, 0x2010), ACKED, READ_LOST],
-    );
+    takes(&rt, &mut world, &[Order(SECOND, 0x2010), ACKED, READ_LOST]);
     refuses(&rt, &mut world, &FULL);
     Ok(())
 }

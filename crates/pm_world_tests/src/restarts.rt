@@ -142,13 +142,9 @@ fn a_run_holds_what_orders_alone_make(rt: HostRuntime) -> Result<(), SetupFault>
     let row = [0xB0, 0x05, 0x04, 0x01, 0x21, 0xCD, 0x34, 0x4C];
     is_true(&rt, bytes.try_extend_from_slice(&row).is_ok(), &row);
     let other = Event::Deliver(Arrival::Bytes(bytes, Ending::Stop));
-    runs(&rt, 0x00, open(), &[ORDER, other, ACKED, READ])
-}
-
-#[test]
-fn a_run_of_a_blocked_order_holds_what_orders_alone_make(
-    rt: HostRuntime,
-) -> Result<(), SetupFault> {
+    runs(&rt, 0x00, open(), &[ORDER, other, ACKED, READ])?;
+    // A run of a blocked order holds what orders make, too.
     let events = [ORDER, WHOLE, ACKED, READ, WHOLE, ACKED, READ, CHECK];
-    runs(&rt, 0x40, blocked(), &events)
+    runs(&rt, 0x40, blocked(), &events)?;
+    Ok(())
 }

@@ -31,70 +31,33 @@ fn ends(
     Ok(world)
 }
 
-// Both answers of an order are lost; a lost write is acknowledged; the converter restarts after an order;
-// and an order is blocked by WRITE_PROTECT.
-fn answers_lost() -> [Event; 9] {
-    [
-        CHECK, READ, ORDER, WHOLE, NOT_ACKED, READ_LOST, LOST, NOT_ACKED, READ_LOST,
-    ]
-}
-
-fn falsely_acked() -> [Event; 9] {
-    [CHECK, READ, ORDER, LOST, ACKED, READ, WHOLE, ACKED, READ]
-}
-
-fn restarted() -> [Event; 9] {
-    [
-        CHECK,
-        READ,
-        ORDER,
-        WHOLE,
-        ACKED,
-        READ,
-        Event::RestartDevice,
-        CHECK,
-        READ,
-    ]
-}
-
-fn blocked() -> [Event; 7] {
-    [ORDER, WHOLE, ACKED, READ, WHOLE, ACKED, READ]
-}
-
 const DONE: (Standing, u16) = (Standing::Confirmed(0x34CD), 0x34CD);
 
 const START: (Standing, u16) = (Standing::Confirmed(0x1000), 0x1000);
 
 #[test]
 fn runs_end_as_their_events_say(rt: HostRuntime) -> Result<(), SetupFault> {
+    let restarted = Event::RestartDevice;
     let unknown = (Standing::Unknown, 0x34CD);
-    ends(
-        &rt,
-        World::base(),
-        &answers_lost(),
-        JobEnd::Unknown,
-        unknown,
-        false,
-    )?;
-    ends(
-        &rt,
-        World::base(),
-        &falsely_acked(),
-        JobEnd::Done,
-        DONE,
-        false,
-    )?;
-    ends(&rt, World::base(), &restarted(), JobEnd::Done, START, true)?;
-    let differs = JobEnd::Differs(0x1000);
-    let world = ends(
-        &rt,
-        World::with_protect(0x40),
-        &blocked(),
-        differs,
-        START,
-        false,
-    )?;
-    equal(&rt, &world.status_cml(), &0x80, &1);
+    #[rattlefmt::skip]
+    let rows: [(u16, &[Event], JobEnd, (Standing, u16), bool, u8); 4] = [
+        // Both answers of an order are lost.
+        (0x00, &[CHECK, READ, ORDER, WHOLE, NOT_ACKED, READ_LOST, LOST, NOT_ACKED, READ_LOST],
+            JobEnd::Unknown, unknown, false, 0x00),
+        // A lost write is acknowledged.
+        (0x00, &[CHECK, READ, ORDER, LOST, ACKED, READ, WHOLE, ACKED, READ], JobEnd::Done, DONE,
+            false, 0x00),
+        // The converter restarts after an order.
+        (0x00, &[CHECK, READ, ORDER, WHOLE, ACKED, READ, restarted, CHECK, READ], JobEnd::Done,
+            START, true, 0x00),
+        // An order is blocked by WRITE_PROTECT.
+        (0x40, &[ORDER, WHOLE, ACKED, READ, WHOLE, ACKED, READ], JobEnd::Differs(0x1000), START,
+            false, 0x80),
+    ];
+    for (protect, events, end, told, seen, cml) in rows {
+        let world = ends(&rt, World::with_protect(protect), events, end, told, seen)?;
+        equal(&rt, &world.status_cml(), &cml, &events);
+    }
     Ok(())
 }
 
@@ -105,16 +68,13 @@ fn is_heard_whole(rt: &impl Abort, heard: &str) -> Result<(), SetupFault> {
     Ok(())
 }
 
-// The frame itself in its place, and a cut past its end, are heard whole.
 #[test]
 fn an_order_goes_through_by_its_bytes(rt: HostRuntime) -> Result<(), SetupFault> {
+    // The frame itself in its place, and a cut past its end, are heard whole.
     is_heard_whole(&rt, "stop: B0 05 04 00 21 CD 34 5A")?;
     is_heard_whole(&rt, "cut 8")?;
-    is_heard_whole(&rt, "cut 200")
-}
-
-#[test]
-fn damage_that_the_pec_does_not_betray_stops_a_run(rt: HostRuntime) -> Result<(), SetupFault> {
+    is_heard_whole(&rt, "cut 200")?;
+    // Damage that the PEC doesn't betray stops a run.
     let other = Arrival::Bytes(frame(&rt, "B0 05 04 01 21 CD 34 4C"), Ending::Stop);
     let events = [ORDER, Event::Deliver(other), ACKED];
     let (world, stop) = World::live(World::base(), 2, &events)?;
@@ -136,14 +96,10 @@ fn is_answered(rt: &impl Abort, world: &World, request: &str, answer: &str) {
 }
 
 // An output, the code of a reading, and its word.
+#[rattlefmt::skip]
 static READINGS: [(u8, u8, u16); 7] = [
-    (0, 0x88, 0x1A2B),
-    (0, 0x8B, 0x2B3C),
-    (1, 0x8B, 0x3C4D),
-    (1, 0x8C, 0x5E6F),
-    (255, 0x8D, 0x6F71),
-    (2, 0x8B, 0x7777),
-    (0, 0x21, 0x7777),
+    (0, 0x88, 0x1A2B), (0, 0x8B, 0x2B3C), (1, 0x8B, 0x3C4D), (1, 0x8C, 0x5E6F), (255, 0x8D, 0x6F71),
+    (2, 0x8B, 0x7777), (0, 0x21, 0x7777),
 ];
 
 // A request, and its answer.

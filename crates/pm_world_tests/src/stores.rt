@@ -11,14 +11,9 @@ use pm_device::Config;
 use pm_host::{JobEnd, Standing};
 use pm_model::{OrderMachine, Plain};
 use pm_table::{Cell, Reg};
+use pm_world::Event::{RestartDevice as RESTARTED, Restore as RESTORE, Store as STORE};
 use pm_world::{Arrival, Event, SetupFault, World};
 use std::process::Abort;
-
-const STORE: Event = Event::Store;
-
-const RESTORE: Event = Event::Restore;
-
-const RESTARTED: Event = Event::RestartDevice;
 
 const CUT: Event = Event::Deliver(Arrival::Cut(2));
 
@@ -88,29 +83,11 @@ fn a_restore_leaves_nothing_believed(rt: HostRuntime) -> Result<(), SetupFault> 
     let start = Standing::Confirmed(0x1000);
     ends(&rt, 0x00, &read, (0x1000, start, DONE))?;
     // After an order that didn't end well, a restart between a store and a restore, and another order.
+    #[rattlefmt::skip]
     let unfinished = [
-        ORDER,
-        WHOLE,
-        NOT_ACKED,
-        READ_LOST,
-        LOST,
-        NOT_ACKED,
-        READ_LOST,
-        STORE,
-        WHOLE,
-        NOT_ACKED,
-        LOST,
-        NOT_ACKED,
-        RESTARTED,
-        Event::Order(SECOND, 0x2000),
-        WHOLE,
-        ACKED,
-        READ,
-        RESTORE,
-        LOST,
-        NOT_ACKED,
-        WHOLE,
-        ACKED,
+        ORDER, WHOLE, NOT_ACKED, READ_LOST, LOST, NOT_ACKED, READ_LOST, STORE, WHOLE, NOT_ACKED,
+        LOST, NOT_ACKED, RESTARTED, Event::Order(SECOND, 0x2000), WHOLE, ACKED, READ, RESTORE, LOST,
+        NOT_ACKED, WHOLE, ACKED,
     ];
     ends(&rt, 0x00, &unfinished, (0x34CD, unknown, DONE))
 }
@@ -136,16 +113,11 @@ const ANY: Standing = Standing::Unknown;
 const OPEN: Standing = Standing::Confirmed(0x00);
 
 // A restore that is sent twice, and read between its job and the next one.
+#[rattlefmt::skip]
 const RESTORED: [Said; 11] = [
     (CHECK, ANY, &[], ANY, &[]),
     (READ, Standing::Confirmed(0x1000), &[0x1000], ANY, &[]),
-    (
-        Event::Check(Cell::Protect),
-        Standing::Confirmed(0x1000),
-        &[0x1000],
-        ANY,
-        &[],
-    ),
+    (Event::Check(Cell::Protect), Standing::Confirmed(0x1000), &[0x1000], ANY, &[]),
     (READ, Standing::Confirmed(0x1000), &[0x1000], OPEN, &[0x00]),
     (STORE, Standing::Confirmed(0x1000), &[0x1000], OPEN, &[0x00]),
     (ACKED, Standing::Confirmed(0x1000), &[0x1000], OPEN, &[0x00]),
@@ -207,10 +179,7 @@ fn a_store_and_a_restore_are_plain_send_bytes(rt: HostRuntime) -> Result<(), Set
 
 // Eight outputs, and VOUT_COMMAND of one of them.
 fn eight() -> Config {
-    Config {
-        count: 8,
-        ..World::base()
-    }
+    with! { Config, World::base(); count: 8 }
 }
 
 fn voltage(output: u8) -> Cell {

@@ -14,10 +14,7 @@ use pm_table::{Cell, Coefficients, Reg};
 use pm_world::{Event, SetupFault, World};
 use std::process::Abort;
 
-const DIRECT: OutputStart = OutputStart {
-    mode: 0x40,
-    ..OUTPUT
-};
+const DIRECT: OutputStart = with! { OutputStart, OUTPUT; mode: 0x40 };
 
 // The first output is ULINEAR16 with N = -12, the second DIRECT, in millivolts.
 const MIXED: Config = Config {
@@ -37,79 +34,20 @@ fn mixed() -> Config {
 const PASSES: u8 = 3;
 
 // The word of each cell that is ordered, the write and the request.
+#[rattlefmt::skip]
 static ORDERS: [(Cell, u16, &str, &str); 13] = [
-    (
-        Cell::Out(0, Reg::Operation),
-        0x94,
-        "B0 05 03 00 01 94 6E",
-        "B0 06 02 00 01",
-    ),
-    (
-        Cell::Out(0, Reg::VoutCommand),
-        0x34CD,
-        "B0 05 04 00 21 CD 34 5A",
-        "B0 06 02 00 21",
-    ),
-    (
-        Cell::Out(0, Reg::VoutMax),
-        0x5678,
-        "B0 05 04 00 24 78 56 BD",
-        "B0 06 02 00 24",
-    ),
-    (
-        Cell::Out(0, Reg::MarginHigh),
-        0x1234,
-        "B0 05 04 00 25 34 12 AA",
-        "B0 06 02 00 25",
-    ),
-    (
-        Cell::Out(0, Reg::MarginLow),
-        0x0ABC,
-        "B0 05 04 00 26 BC 0A 41",
-        "B0 06 02 00 26",
-    ),
-    (
-        Cell::Out(0, Reg::VoutMin),
-        0x0123,
-        "B0 05 04 00 2B 23 01 C3",
-        "B0 06 02 00 2B",
-    ),
-    (
-        Cell::Out(1, Reg::Operation),
-        0x94,
-        "B0 05 03 01 01 94 05",
-        "B0 06 02 01 01",
-    ),
-    (
-        Cell::Out(1, Reg::VoutCommand),
-        0x34CD,
-        "B0 05 04 01 21 CD 34 4C",
-        "B0 06 02 01 21",
-    ),
-    (
-        Cell::Out(1, Reg::VoutMax),
-        0x5678,
-        "B0 05 04 01 24 78 56 AB",
-        "B0 06 02 01 24",
-    ),
-    (
-        Cell::Out(1, Reg::MarginHigh),
-        0x1234,
-        "B0 05 04 01 25 34 12 BC",
-        "B0 06 02 01 25",
-    ),
-    (
-        Cell::Out(1, Reg::MarginLow),
-        0x0ABC,
-        "B0 05 04 01 26 BC 0A 57",
-        "B0 06 02 01 26",
-    ),
-    (
-        Cell::Out(1, Reg::VoutMin),
-        0x0123,
-        "B0 05 04 01 2B 23 01 D5",
-        "B0 06 02 01 2B",
-    ),
+    (Cell::Out(0, Reg::Operation), 0x94, "B0 05 03 00 01 94 6E", "B0 06 02 00 01"),
+    (Cell::Out(0, Reg::VoutCommand), 0x34CD, "B0 05 04 00 21 CD 34 5A", "B0 06 02 00 21"),
+    (Cell::Out(0, Reg::VoutMax), 0x5678, "B0 05 04 00 24 78 56 BD", "B0 06 02 00 24"),
+    (Cell::Out(0, Reg::MarginHigh), 0x1234, "B0 05 04 00 25 34 12 AA", "B0 06 02 00 25"),
+    (Cell::Out(0, Reg::MarginLow), 0x0ABC, "B0 05 04 00 26 BC 0A 41", "B0 06 02 00 26"),
+    (Cell::Out(0, Reg::VoutMin), 0x0123, "B0 05 04 00 2B 23 01 C3", "B0 06 02 00 2B"),
+    (Cell::Out(1, Reg::Operation), 0x94, "B0 05 03 01 01 94 05", "B0 06 02 01 01"),
+    (Cell::Out(1, Reg::VoutCommand), 0x34CD, "B0 05 04 01 21 CD 34 4C", "B0 06 02 01 21"),
+    (Cell::Out(1, Reg::VoutMax), 0x5678, "B0 05 04 01 24 78 56 AB", "B0 06 02 01 24"),
+    (Cell::Out(1, Reg::MarginHigh), 0x1234, "B0 05 04 01 25 34 12 BC", "B0 06 02 01 25"),
+    (Cell::Out(1, Reg::MarginLow), 0x0ABC, "B0 05 04 01 26 BC 0A 57", "B0 06 02 01 26"),
+    (Cell::Out(1, Reg::VoutMin), 0x0123, "B0 05 04 01 2B 23 01 D5", "B0 06 02 01 2B"),
     (Cell::Protect, 0x40, "B0 10 40 7A", "B0 10"),
 ];
 
@@ -174,14 +112,6 @@ fn is_confirmed(
     Ok(())
 }
 
-#[test]
-fn each_cell_is_ordered_and_confirmed(rt: HostRuntime) -> Result<(), SetupFault> {
-    for (cell, word, write, request) in &ORDERS {
-        is_confirmed(&rt, *cell, *word, write, request)?;
-    }
-    Ok(())
-}
-
 // A clear in vain, and one whose second frame is acknowledged.
 fn is_cleared(rt: &impl Abort, world: &mut World, clear: &Event, frame: &str) {
     goes(rt, world, clear, frame);
@@ -196,7 +126,14 @@ fn is_cleared(rt: &impl Abort, world: &mut World, clear: &Event, frame: &str) {
 }
 
 #[test]
-fn a_clear_sends_clear_faults_until_it_is_acknowledged(rt: HostRuntime) -> Result<(), SetupFault> {
+fn each_cell_is_ordered_and_confirmed_and_each_output_is_cleared(
+    rt: HostRuntime,
+) -> Result<(), SetupFault> {
+    // Each cell is ordered and confirmed.
+    for (cell, word, write, request) in &ORDERS {
+        is_confirmed(&rt, *cell, *word, write, request)?;
+    }
+    // A clear sends CLEAR_FAULTS until it is acknowledged.
     let mut world = World::begin(mixed(), PASSES)?;
     is_cleared(&rt, &mut world, &Event::Clear(0), "B0 05 02 00 03 50");
     is_cleared(&rt, &mut world, &Event::Clear(1), "B0 05 02 01 03 45");

@@ -158,13 +158,8 @@ impl Part {
     }
 }
 
-/// Carries a course over a part, by this many frames at most.
-pub(crate) fn carried(
-    mut course: FrameCourse,
-    guard: &mut Guard,
-    part: &mut Part,
-    most: usize,
-) -> Run {
+/// Carries a course over a part, by 400 frames at most.
+pub(crate) fn carried(mut course: FrameCourse, guard: &mut Guard, part: &mut Part) -> Run {
     let mut run = Run {
         end: None,
         first: 0,
@@ -174,7 +169,7 @@ pub(crate) fn carried(
         word: 0,
         asked_protect: false,
     };
-    for frames in 0..most {
+    for frames in 0..400usize {
         if guard.host().outputs() <= course.course.survey.output {
             break;
         }

@@ -21,12 +21,9 @@ static SETTINGS: [&str; 4] = [
 // Requests that are refused, in which whole writes stand too: a code that isn't in the table, as in a block read of MFR_ID,
 // CLEAR_FAULTS, STORE_USER_ALL and RESTORE_USER_ALL, writes of VOUT_COMMAND and PAGE, a page that isn't there and a side
 // that isn't there; each with STATUS_CML as it is then.
+#[rattlefmt::skip]
 static REQUESTS: [(&str, DeviceFault, u8); 8] = [
-    (
-        "B0 21 CD 34 38",
-        DeviceFault::Frame(FrameFault::Long(2)),
-        0x02,
-    ),
+    ("B0 21 CD 34 38", DeviceFault::Frame(FrameFault::Long(2)), 0x02),
     ("B0 00 00 EA", DeviceFault::Frame(FrameFault::Long(2)), 0x02),
     ("B0 30 02 21 02", DeviceFault::UnsupportedData, 0x42),
     ("B0 99", DeviceFault::UnsupportedCode, 0xC2),
@@ -38,13 +35,9 @@ static REQUESTS: [(&str, DeviceFault, u8); 8] = [
 
 // Frames for other devices, which are whole writes to 59h, 57h and 2Ch, a read's answer and a read of this device's own
 // address, and no bytes.
+#[rattlefmt::skip]
 static OTHERS: [&str; 6] = [
-    "B2 05 04 00 21 CD 34 5A",
-    "AE 15 24",
-    "58 00 00 EA",
-    "B3 02 34 12 CC",
-    "B1 21 CD 34 38",
-    "",
+    "B2 05 04 00 21 CD 34 5A", "AE 15 24", "58 00 00 EA", "B3 02 34 12 CC", "B1 21 CD 34 38", "",
 ];
 
 // The converter has the words of another one, in the store too, and PAGE 1.

@@ -11,13 +11,10 @@ use std::test::Fail;
 
 // The bytes that have a meaning, from the first to the last: whether the output is on, and the
 // numerator of what it commands over 4096.
+#[rattlefmt::skip]
 static MEANINGS: [(u8, u8, bool, i128); 7] = [
-    (0x00, 0x3F, false, 0x1000),
-    (0x40, 0x7F, false, 0x1000),
-    (0x80, 0x8F, true, 0x1000),
-    (0x94, 0x97, true, 0x0F00),
-    (0x98, 0x9B, true, 0x0F00),
-    (0xA4, 0xA7, true, 0x1100),
+    (0x00, 0x3F, false, 0x1000), (0x40, 0x7F, false, 0x1000), (0x80, 0x8F, true, 0x1000),
+    (0x94, 0x97, true, 0x0F00), (0x98, 0x9B, true, 0x0F00), (0xA4, 0xA7, true, 0x1100),
     (0xA8, 0xAB, true, 0x1100),
 ];
 
@@ -56,12 +53,7 @@ fn means(rt: &impl Abort, byte: u8) -> Result<(), ConfigFault> {
             does(rt, &converter, byte, on, volts);
         }
         (None, Err(fault)) => {
-            equal(
-                rt,
-                &fault,
-                &ConfigFault::BadStart(Cell::Out(1, Reg::Operation)),
-                &1,
-            );
+            compare! { rt, 1; fault => ConfigFault::BadStart(Cell::Out(1, Reg::Operation)) }
             let refused = Wanted::Refused(DeviceFault::UnsupportedData);
             hears(rt, &mut converter, &whole, Ending::Stop, refused);
             does(rt, &converter, 0x80, true, 0x1000);

@@ -4,128 +4,72 @@ use super::{Wanted, hears, hears_row, status, with_protect};
 use crate::checks::equal;
 use crate::device_frames::{base, frame, made, page_of, status_cml, word};
 use crate::fixtures::{BASE, CELLS, OUTPUT};
+use pm_device::DeviceFault::{
+    BadPage as K4, Frame as K1, Nested as K6, Protected as K5, ReadOnly as K7,
+    UnsupportedCode as K2, UnsupportedData as K3,
+};
 use pm_device::{Config, ConfigFault, Converter, DeviceFault, Ending, OutputStart};
-use pm_frame::FrameFault;
+use pm_frame::FrameFault::{Long, Short, WrongCount, WrongPec};
 use std::process::Abort;
 use std::test::Fail;
-
-const K2: DeviceFault = DeviceFault::UnsupportedCode;
-
-const K3: DeviceFault = DeviceFault::UnsupportedData;
-
-const K4: DeviceFault = DeviceFault::BadPage;
-
-const K5: DeviceFault = DeviceFault::Protected;
-
-const K6: DeviceFault = DeviceFault::Nested;
-
-const K7: DeviceFault = DeviceFault::ReadOnly;
-
-const K1_F2_1: DeviceFault = DeviceFault::Frame(FrameFault::Short(1));
-
-const K1_F2_4: DeviceFault = DeviceFault::Frame(FrameFault::Short(4));
-
-const K1_F2_6: DeviceFault = DeviceFault::Frame(FrameFault::Short(6));
-
-const K1_F3_2: DeviceFault = DeviceFault::Frame(FrameFault::Long(2));
-
-const K1_F3_5: DeviceFault = DeviceFault::Frame(FrameFault::Long(5));
-
-const K1_F3_8: DeviceFault = DeviceFault::Frame(FrameFault::Long(8));
-
-const K1_F4: DeviceFault = DeviceFault::Frame(FrameFault::WrongCount(2));
-
-const K1_F5_3: DeviceFault = DeviceFault::Frame(FrameFault::WrongPec(3));
-
-const K1_F5_6: DeviceFault = DeviceFault::Frame(FrameFault::WrongPec(6));
-
-const K1_F5_7: DeviceFault = DeviceFault::Frame(FrameFault::WrongPec(7));
 
 // Each refusal of a converter of its own that starts with this WRITE_PROTECT, and what STATUS_CML then is.
 type Refusal = (u16, &'static str, DeviceFault, u8);
 
+#[rattlefmt::skip]
 static REFUSALS: [Refusal; 46] = [
-    (0x00, "B0", K1_F2_1, 0x02),
-    (0x00, "B0 06 02 00 /", K1_F2_4, 0x02),
-    (0x00, "B0 21 CD 34 38 00", K1_F3_5, 0x02),
-    (0x00, "B0 20 00 /", K1_F3_2, 0x02),
-    (0x00, "B0 05 01 00 4D", K1_F4, 0x02),
-    (0x00, "B0 05 03 00 21 CD 48", K1_F4, 0x02),
-    (0x00, "B0 06 01 00 21 /", K1_F4, 0x02),
-    (0x00, "B0 30 03 21 00 /", K1_F4, 0x02),
-    (0x00, "B0 05 04 01 21 CD 34 5A", K1_F5_7, 0x20),
-    (0x00, "B0 10 40 00", K1_F5_3, 0x20),
-    (0x00, "B0 99 /", K2, 0x80),
-    (0x00, "B0 06 02 00 99 /", K2, 0x80),
-    (0x00, "B0 99 00 B6", K2, 0x80),
-    (0x00, "B0 05 03 00 99 00 C2", K2, 0x80),
-    (0x00, "B0 03 /", K7, 0x80),
-    (0x00, "B0 05 /", K7, 0x80),
-    (0x00, "B0 06 02 00 03 /", K7, 0x80),
-    (0x00, "B0 19 00 00", K7, 0x80),
-    (0x00, "B0 06 00 94", K7, 0x80),
-    (0x00, "B0 05 03 00 78 00 94", K7, 0x80),
-    (0x00, "B0 05 04 00 21 CD 34 5A /", K7, 0x80),
-    (0x00, "B0 05 03 00 00 01 99", K6, 0x80),
-    (0x00, "B0 05 03 00 05 01 D8", K6, 0x80),
-    (0x00, "B0 05 03 00 06 01 E7", K6, 0x80),
-    (0x00, "B0 05 03 00 30 01 60", K6, 0x80),
-    (0x00, "B0 06 02 00 00 /", K6, 0x80),
-    (0x00, "B0 06 02 00 05 /", K6, 0x80),
-    (0x00, "B0 06 02 00 06 /", K6, 0x80),
-    (0x00, "B0 06 02 00 30 /", K6, 0x80),
-    (0x00, "B0 05 03 00 01 B0 92", K3, 0x40),
-    (0x00, "B0 01 B0 E6", K3, 0x40),
-    (0x00, "B0 10 60 9A", K3, 0x40),
-    (0x00, "B0 05 03 01 10 01 A5", K3, 0x40),
-    (0x00, "B0 30 02 21 00 /", K3, 0x40),
-    (0x00, "B0 05 04 02 21 00 10 8E", K4, 0x40),
-    (0x00, "B0 05 04 FF 21 00 10 73", K4, 0x40),
-    (0x00, "B0 00 02 E4", K4, 0x40),
-    (0x00, "B0 00 FF 19", K4, 0x40),
-    (0x00, "B0 05 03 02 7E 80 B5", K4, 0x40),
-    (0x00, "B0 05 03 02 10 80 96", K4, 0x40),
-    (0x00, "B0 05 02 02 03 7A", K4, 0x40),
-    (0x00, "B0 06 02 02 21 /", K4, 0x40),
-    (0x00, "B0 06 02 02 19 /", K4, 0x40),
-    (0x00, "B0 06 02 FF 88 /", K4, 0x40),
-    (0x80, "B0 21 CD 34 38", K5, 0x80),
+    (0x00, "B0", K1(Short(1)), 0x02), (0x00, "B0 06 02 00 /", K1(Short(4)), 0x02),
+    (0x00, "B0 21 CD 34 38 00", K1(Long(5)), 0x02), (0x00, "B0 20 00 /", K1(Long(2)), 0x02),
+    (0x00, "B0 05 01 00 4D", K1(WrongCount(2)), 0x02),
+    (0x00, "B0 05 03 00 21 CD 48", K1(WrongCount(2)), 0x02),
+    (0x00, "B0 06 01 00 21 /", K1(WrongCount(2)), 0x02),
+    (0x00, "B0 30 03 21 00 /", K1(WrongCount(2)), 0x02),
+    (0x00, "B0 05 04 01 21 CD 34 5A", K1(WrongPec(7)), 0x20),
+    (0x00, "B0 10 40 00", K1(WrongPec(3)), 0x20), (0x00, "B0 99 /", K2, 0x80),
+    (0x00, "B0 06 02 00 99 /", K2, 0x80), (0x00, "B0 99 00 B6", K2, 0x80),
+    (0x00, "B0 05 03 00 99 00 C2", K2, 0x80), (0x00, "B0 03 /", K7, 0x80),
+    (0x00, "B0 05 /", K7, 0x80), (0x00, "B0 06 02 00 03 /", K7, 0x80),
+    (0x00, "B0 19 00 00", K7, 0x80), (0x00, "B0 06 00 94", K7, 0x80),
+    (0x00, "B0 05 03 00 78 00 94", K7, 0x80), (0x00, "B0 05 04 00 21 CD 34 5A /", K7, 0x80),
+    (0x00, "B0 05 03 00 00 01 99", K6, 0x80), (0x00, "B0 05 03 00 05 01 D8", K6, 0x80),
+    (0x00, "B0 05 03 00 06 01 E7", K6, 0x80), (0x00, "B0 05 03 00 30 01 60", K6, 0x80),
+    (0x00, "B0 06 02 00 00 /", K6, 0x80), (0x00, "B0 06 02 00 05 /", K6, 0x80),
+    (0x00, "B0 06 02 00 06 /", K6, 0x80), (0x00, "B0 06 02 00 30 /", K6, 0x80),
+    (0x00, "B0 05 03 00 01 B0 92", K3, 0x40), (0x00, "B0 01 B0 E6", K3, 0x40),
+    (0x00, "B0 10 60 9A", K3, 0x40), (0x00, "B0 05 03 01 10 01 A5", K3, 0x40),
+    (0x00, "B0 30 02 21 00 /", K3, 0x40), (0x00, "B0 05 04 02 21 00 10 8E", K4, 0x40),
+    (0x00, "B0 05 04 FF 21 00 10 73", K4, 0x40), (0x00, "B0 00 02 E4", K4, 0x40),
+    (0x00, "B0 00 FF 19", K4, 0x40), (0x00, "B0 05 03 02 7E 80 B5", K4, 0x40),
+    (0x00, "B0 05 03 02 10 80 96", K4, 0x40), (0x00, "B0 05 02 02 03 7A", K4, 0x40),
+    (0x00, "B0 06 02 02 21 /", K4, 0x40), (0x00, "B0 06 02 02 19 /", K4, 0x40),
+    (0x00, "B0 06 02 FF 88 /", K4, 0x40), (0x80, "B0 21 CD 34 38", K5, 0x80),
     (0x40, "B0 05 04 00 21 CD 34 5A", K5, 0x80),
 ];
 
 // Bytes that can be refused for more than one thing, in the same form.
+#[rattlefmt::skip]
 static PAIRS: [Refusal; 31] = [
-    (0x80, "B0 00 02 E4", K4, 0x40),
-    (0x80, "B0 05 04 02 21 00 10 8E", K4, 0x40),
-    (0x80, "B0 05 03 02 7A 08 50", K4, 0x40),
-    (0x80, "B0 05 02 02 03 7A", K4, 0x40),
-    (0x00, "B0 05 03 02 01 B0 44", K4, 0x40),
-    (0x80, "B0 05 03 02 01 B0 44", K4, 0x40),
-    (0x80, "B0 05 03 02 10 60 38", K4, 0x40),
-    (0x80, "B0 05 03 00 01 B0 92", K5, 0x80),
-    (0x80, "B0 01 B0 E6", K5, 0x80),
-    (0x80, "B0 10 60 9A", K3, 0x40),
-    (0x80, "B0 05 03 02 99 00 14", K2, 0x80),
-    (0x80, "B0 05 03 02 00 02 46", K6, 0x80),
-    (0x80, "B0 05 03 02 19 00 A2", K7, 0x80),
-    (0x80, "B0 06 02 02 99 /", K2, 0x80),
-    (0x80, "B0 06 02 02 00 /", K6, 0x80),
-    (0x80, "B0 06 02 02 03 /", K7, 0x80),
+    (0x80, "B0 00 02 E4", K4, 0x40), (0x80, "B0 05 04 02 21 00 10 8E", K4, 0x40),
+    (0x80, "B0 05 03 02 7A 08 50", K4, 0x40), (0x80, "B0 05 02 02 03 7A", K4, 0x40),
+    (0x00, "B0 05 03 02 01 B0 44", K4, 0x40), (0x80, "B0 05 03 02 01 B0 44", K4, 0x40),
+    (0x80, "B0 05 03 02 10 60 38", K4, 0x40), (0x80, "B0 05 03 00 01 B0 92", K5, 0x80),
+    (0x80, "B0 01 B0 E6", K5, 0x80), (0x80, "B0 10 60 9A", K3, 0x40),
+    (0x80, "B0 05 03 02 99 00 14", K2, 0x80), (0x80, "B0 05 03 02 00 02 46", K6, 0x80),
+    (0x80, "B0 05 03 02 19 00 A2", K7, 0x80), (0x80, "B0 06 02 02 99 /", K2, 0x80),
+    (0x80, "B0 06 02 02 00 /", K6, 0x80), (0x80, "B0 06 02 02 03 /", K7, 0x80),
     (0x80, "B0 06 02 02 21 /", K4, 0x40),
-    (0x80, "B0 05 04 02 21 00", K1_F2_6, 0x02),
-    (0x80, "B0 05 04 02 21 00 10 8E 00", K1_F3_8, 0x02),
-    (0x80, "B0 05 03 02 21 00 F3", K1_F4, 0x02),
-    (0x80, "B0 05 04 02 21 00 10 00", K1_F5_7, 0x20),
-    (0x80, "B0 05 03 02 99 00 00", K1_F5_6, 0x20),
-    (0x80, "B0 06 02 02 /", K1_F2_4, 0x02),
-    (0x80, "B0 06 02 02 21 00 /", K1_F3_5, 0x02),
-    (0x80, "B0 06 01 02 21 /", K1_F4, 0x02),
-    (0x00, "B0 30 02 01 /", K1_F2_4, 0x02),
-    (0x00, "B0 30 02 01 02 00 /", K1_F3_5, 0x02),
-    (0x80, "B0 01 B0 00", K1_F5_3, 0x20),
-    (0x80, "B0 05 02 02 15 18", K4, 0x40),
-    (0x80, "B0 05 02 02 16 11", K4, 0x40),
-    (0x80, "B0 05 03 02 7E 80 B5", K4, 0x40),
+    (0x80, "B0 05 04 02 21 00", K1(Short(6)), 0x02),
+    (0x80, "B0 05 04 02 21 00 10 8E 00", K1(Long(8)), 0x02),
+    (0x80, "B0 05 03 02 21 00 F3", K1(WrongCount(2)), 0x02),
+    (0x80, "B0 05 04 02 21 00 10 00", K1(WrongPec(7)), 0x20),
+    (0x80, "B0 05 03 02 99 00 00", K1(WrongPec(6)), 0x20),
+    (0x80, "B0 06 02 02 /", K1(Short(4)), 0x02),
+    (0x80, "B0 06 02 02 21 00 /", K1(Long(5)), 0x02),
+    (0x80, "B0 06 01 02 21 /", K1(WrongCount(2)), 0x02),
+    (0x00, "B0 30 02 01 /", K1(Short(4)), 0x02),
+    (0x00, "B0 30 02 01 02 00 /", K1(Long(5)), 0x02),
+    (0x80, "B0 01 B0 00", K1(WrongPec(3)), 0x20), (0x80, "B0 05 02 02 15 18", K4, 0x40),
+    (0x80, "B0 05 02 02 16 11", K4, 0x40), (0x80, "B0 05 03 02 7E 80 B5", K4, 0x40),
 ];
 
 // A refusal sets its one bit, which every output's STATUS_WORD shows, and leaves every word.
@@ -170,14 +114,11 @@ fn is_not_heard(rt: &impl Abort, converter: &mut Converter, text: &str, ending: 
 }
 
 // Frames to another device, and no bytes.
+#[rattlefmt::skip]
 static NOT_HEARD: [(&str, Ending); 7] = [
-    ("", Ending::Stop),
-    ("", Ending::Restart),
-    ("B1 21 CD 34 00", Ending::Stop),
-    ("B2 05 04 00 21 CD 34 5A", Ending::Stop),
-    ("58 05 04 00 21 CD 34 5A", Ending::Stop),
-    ("B2 20", Ending::Restart),
-    ("B1 20", Ending::Restart),
+    ("", Ending::Stop), ("", Ending::Restart), ("B1 21 CD 34 00", Ending::Stop),
+    ("B2 05 04 00 21 CD 34 5A", Ending::Stop), ("58 05 04 00 21 CD 34 5A", Ending::Stop),
+    ("B2 20", Ending::Restart), ("B1 20", Ending::Restart),
 ];
 
 #[test]
@@ -191,29 +132,17 @@ fn what_is_for_another_device_is_not_heard(rt: HostRuntime) -> Result<(), Fail> 
 
 // A converter with so many outputs, of which the third is DIRECT.
 fn with_third(count: u8) -> Result<Converter, ConfigFault> {
-    let direct = OutputStart {
-        mode: 0x40,
-        ..OUTPUT
-    };
+    let direct = with! { OutputStart, OUTPUT; mode: 0x40 };
     let mut starts = [OUTPUT; 8];
     starts[2] = direct;
-    made(Config {
-        count,
-        starts,
-        ..BASE
-    })
+    made(with! { Config, BASE; count, starts })
 }
 
 // A side that isn't there, and codes that have no coefficients.
+#[rattlefmt::skip]
 static NO_COEFFICIENTS: [&str; 8] = [
-    "B0 30 02 21 02 /",
-    "B0 30 02 21 FF /",
-    "B0 30 02 01 00 /",
-    "B0 30 02 20 00 /",
-    "B0 30 02 22 00 /",
-    "B0 30 02 8C 01 /",
-    "B0 30 02 88 01 /",
-    "B0 30 02 30 00 /",
+    "B0 30 02 21 02 /", "B0 30 02 21 FF /", "B0 30 02 01 00 /", "B0 30 02 20 00 /",
+    "B0 30 02 22 00 /", "B0 30 02 8C 01 /", "B0 30 02 88 01 /", "B0 30 02 30 00 /",
 ];
 
 // A COEFFICIENTS request is refused for its code, for its side, and if no output that exists is DIRECT.

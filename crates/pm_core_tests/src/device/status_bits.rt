@@ -92,17 +92,13 @@ const WARNED: (u16, u8) = (0x8001, 0x08);
 const CLEAN: (u16, u8) = (0x0000, 0x00);
 
 // A byte written to STATUS_VOUT of output 0, plainly and carried, and whether its warning goes.
+#[rattlefmt::skip]
 static VOUT_WRITES: [(&str, &str, bool); 11] = [
-    ("B0 7A 80 43", "B0 05 03 00 7A 80 37", false),
-    ("B0 7A 40 0D", "B0 05 03 00 7A 40 79", false),
-    ("B0 7A 20 2A", "B0 05 03 00 7A 20 5E", false),
-    ("B0 7A 10 BA", "B0 05 03 00 7A 10 CE", false),
-    ("B0 7A 08 F2", "B0 05 03 00 7A 08 86", true),
-    ("B0 7A 04 D6", "B0 05 03 00 7A 04 A2", false),
-    ("B0 7A 02 C4", "B0 05 03 00 7A 02 B0", false),
-    ("B0 7A 01 CD", "B0 05 03 00 7A 01 B9", false),
-    ("B0 7A 00 CA", "B0 05 03 00 7A 00 BE", false),
-    ("B0 7A FF 39", "B0 05 03 00 7A FF 4D", true),
+    ("B0 7A 80 43", "B0 05 03 00 7A 80 37", false), ("B0 7A 40 0D", "B0 05 03 00 7A 40 79", false),
+    ("B0 7A 20 2A", "B0 05 03 00 7A 20 5E", false), ("B0 7A 10 BA", "B0 05 03 00 7A 10 CE", false),
+    ("B0 7A 08 F2", "B0 05 03 00 7A 08 86", true), ("B0 7A 04 D6", "B0 05 03 00 7A 04 A2", false),
+    ("B0 7A 02 C4", "B0 05 03 00 7A 02 B0", false), ("B0 7A 01 CD", "B0 05 03 00 7A 01 B9", false),
+    ("B0 7A 00 CA", "B0 05 03 00 7A 00 BE", false), ("B0 7A FF 39", "B0 05 03 00 7A FF 4D", true),
     ("B0 7A F7 01", "B0 05 03 00 7A F7 75", false),
 ];
 
@@ -124,70 +120,25 @@ fn bit_3_written_clears_the_warning_of_one_output(rt: HostRuntime) -> Result<(),
     }
     // While PAGE is 1, a plain write of bit 3, a plain CLEAR_FAULTS, and one that is carried.
     let page_1 = "B0 00 01 ED";
-    equal(
-        &rt,
-        &shown(&rt, &[page_1, "B0 7A 08 F2"])?,
-        &[WARNED, CLEAN],
-        &1,
-    );
-    equal(
-        &rt,
-        &shown(&rt, &[page_1, "B0 03 46"])?,
-        &[WARNED, CLEAN],
-        &2,
-    );
-    equal(
-        &rt,
-        &shown(&rt, &[page_1, "B0 05 02 00 03 50"])?,
-        &[CLEAN, WARNED],
-        &3,
-    );
+    compare! { &rt;
+        1, shown(&rt, &[page_1, "B0 7A 08 F2"])? => [WARNED, CLEAN];
+        2, shown(&rt, &[page_1, "B0 03 46"])? => [WARNED, CLEAN];
+        3, shown(&rt, &[page_1, "B0 05 02 00 03 50"])? => [CLEAN, WARNED];
+    }
     Ok(())
 }
 
 // Writes of output 0 after which it is within its limits again, and whether it was outside them: by
 // VOUT_MAX, by VOUT_MIN, by OPERATION, by a margin that is selected, and not by one that isn't.
+#[rattlefmt::skip]
 static WARNINGS: [(&[&str], bool); 7] = [
-    (
-        &["B0 05 04 00 2B 00 20 B5", "B0 05 04 00 2B 00 00 55"],
-        true,
-    ),
-    (
-        &["B0 05 04 00 24 00 08 2A", "B0 05 04 00 24 00 40 D5"],
-        true,
-    ),
-    (
-        &[
-            "B0 05 04 00 25 00 50 CE",
-            "B0 05 03 00 01 A8 DA",
-            "B0 05 03 00 01 80 02",
-        ],
-        true,
-    ),
-    (
-        &[
-            "B0 05 03 00 01 A8 DA",
-            "B0 05 04 00 25 00 50 CE",
-            "B0 05 04 00 25 00 11 0E",
-        ],
-        true,
-    ),
-    (
-        &[
-            "B0 05 03 00 01 94 6E",
-            "B0 05 04 00 26 00 50 73",
-            "B0 05 04 00 26 00 0F E9",
-        ],
-        true,
-    ),
-    (
-        &["B0 05 04 00 25 00 50 CE", "B0 05 04 00 25 00 11 0E"],
-        false,
-    ),
-    (
-        &["B0 05 04 00 26 00 50 73", "B0 05 04 00 26 00 0F E9"],
-        false,
-    ),
+    (&["B0 05 04 00 2B 00 20 B5", "B0 05 04 00 2B 00 00 55"], true),
+    (&["B0 05 04 00 24 00 08 2A", "B0 05 04 00 24 00 40 D5"], true),
+    (&["B0 05 04 00 25 00 50 CE", "B0 05 03 00 01 A8 DA", "B0 05 03 00 01 80 02"], true),
+    (&["B0 05 03 00 01 A8 DA", "B0 05 04 00 25 00 50 CE", "B0 05 04 00 25 00 11 0E"], true),
+    (&["B0 05 03 00 01 94 6E", "B0 05 04 00 26 00 50 73", "B0 05 04 00 26 00 0F E9"], true),
+    (&["B0 05 04 00 25 00 50 CE", "B0 05 04 00 25 00 11 0E"], false),
+    (&["B0 05 04 00 26 00 50 73", "B0 05 04 00 26 00 0F E9"], false),
 ];
 
 // The first output warns after these rows, or doesn't, until it is cleared; the second never does.
@@ -237,54 +188,36 @@ fn clears_and_restarts_leave_what_holds(rt: HostRuntime) -> Result<(), Fail> {
 }
 
 // The names that are exported, by the standard's numbers.
+#[rattlefmt::skip]
 static BYTE_BITS: [(StatusByte, u8); 8] = [
-    (StatusByte::BUSY, 0x80),
-    (StatusByte::OFF, 0x40),
-    (StatusByte::VOUT_OV_FAULT, 0x20),
-    (StatusByte::IOUT_OC_FAULT, 0x10),
-    (StatusByte::VIN_UV_FAULT, 0x08),
-    (StatusByte::TEMPERATURE, 0x04),
-    (StatusByte::CML, 0x02),
-    (StatusByte::NONE_OF_THE_ABOVE, 0x01),
+    (StatusByte::BUSY, 0x80), (StatusByte::OFF, 0x40), (StatusByte::VOUT_OV_FAULT, 0x20),
+    (StatusByte::IOUT_OC_FAULT, 0x10), (StatusByte::VIN_UV_FAULT, 0x08),
+    (StatusByte::TEMPERATURE, 0x04), (StatusByte::CML, 0x02), (StatusByte::NONE_OF_THE_ABOVE, 0x01),
 ];
 
+#[rattlefmt::skip]
 static VOUT_BITS: [(StatusVout, u8); 8] = [
-    (StatusVout::OV_FAULT, 0x80),
-    (StatusVout::OV_WARNING, 0x40),
-    (StatusVout::UV_WARNING, 0x20),
-    (StatusVout::UV_FAULT, 0x10),
-    (StatusVout::MAX_WARNING, 0x08),
-    (StatusVout::TON_MAX_FAULT, 0x04),
-    (StatusVout::TOFF_MAX_WARNING, 0x02),
+    (StatusVout::OV_FAULT, 0x80), (StatusVout::OV_WARNING, 0x40), (StatusVout::UV_WARNING, 0x20),
+    (StatusVout::UV_FAULT, 0x10), (StatusVout::MAX_WARNING, 0x08),
+    (StatusVout::TON_MAX_FAULT, 0x04), (StatusVout::TOFF_MAX_WARNING, 0x02),
     (StatusVout::TRACKING_ERROR, 0x01),
 ];
 
+#[rattlefmt::skip]
 static CML_BITS: [(StatusCml, u8); 7] = [
-    (StatusCml::COMMAND, 0x80),
-    (StatusCml::DATA, 0x40),
-    (StatusCml::PEC, 0x20),
-    (StatusCml::MEMORY, 0x10),
-    (StatusCml::PROCESSOR, 0x08),
-    (StatusCml::OTHER_COMMUNICATION, 0x02),
+    (StatusCml::COMMAND, 0x80), (StatusCml::DATA, 0x40), (StatusCml::PEC, 0x20),
+    (StatusCml::MEMORY, 0x10), (StatusCml::PROCESSOR, 0x08), (StatusCml::OTHER_COMMUNICATION, 0x02),
     (StatusCml::OTHER, 0x01),
 ];
 
+#[rattlefmt::skip]
 static WORD_BITS: [(StatusWord, u16); 16] = [
-    (StatusWord::VOUT, 0x8000),
-    (StatusWord::IOUT_POUT, 0x4000),
-    (StatusWord::INPUT, 0x2000),
-    (StatusWord::MFR_SPECIFIC, 0x1000),
-    (StatusWord::POWER_NOT_GOOD, 0x0800),
-    (StatusWord::FANS, 0x0400),
-    (StatusWord::OTHER, 0x0200),
-    (StatusWord::UNKNOWN, 0x0100),
-    (StatusWord::BUSY, 0x0080),
-    (StatusWord::OFF, 0x0040),
-    (StatusWord::VOUT_OV_FAULT, 0x0020),
-    (StatusWord::IOUT_OC_FAULT, 0x0010),
-    (StatusWord::VIN_UV_FAULT, 0x0008),
-    (StatusWord::TEMPERATURE, 0x0004),
-    (StatusWord::CML, 0x0002),
+    (StatusWord::VOUT, 0x8000), (StatusWord::IOUT_POUT, 0x4000), (StatusWord::INPUT, 0x2000),
+    (StatusWord::MFR_SPECIFIC, 0x1000), (StatusWord::POWER_NOT_GOOD, 0x0800),
+    (StatusWord::FANS, 0x0400), (StatusWord::OTHER, 0x0200), (StatusWord::UNKNOWN, 0x0100),
+    (StatusWord::BUSY, 0x0080), (StatusWord::OFF, 0x0040), (StatusWord::VOUT_OV_FAULT, 0x0020),
+    (StatusWord::IOUT_OC_FAULT, 0x0010), (StatusWord::VIN_UV_FAULT, 0x0008),
+    (StatusWord::TEMPERATURE, 0x0004), (StatusWord::CML, 0x0002),
     (StatusWord::NONE_OF_THE_ABOVE, 0x0001),
 ];
 

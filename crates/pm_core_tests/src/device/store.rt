@@ -30,57 +30,34 @@ const ONE: [u16; 2] = [0x34CD, 0x1000];
 
 const BOTH: [u16; 2] = [0x34CD, 0x2000];
 
+#[rattlefmt::skip]
 static ROWS: [Row; 33] = [
     ("B0 16 2D", None, START, START, 0x00),
     ("B0 05 04 00 21 CD 34 5A", None, ONE, START, 0x00),
     // What names no output, has a byte too many, or is asked for as a read, is refused.
-    ("B0 05 02 02 15 18", K4, ONE, START, 0x00),
-    ("B0 05 02 02 16 11", K4, ONE, START, 0x00),
-    ("B0 05 02 FF 16 EC", K4, ONE, START, 0x00),
-    ("B0 15 00 FC", F3, ONE, START, 0x00),
-    ("B0 05 03 00 15 00 88", F4, ONE, START, 0x00),
-    ("B0 15 /", K7, ONE, START, 0x00),
+    ("B0 05 02 02 15 18", K4, ONE, START, 0x00), ("B0 05 02 02 16 11", K4, ONE, START, 0x00),
+    ("B0 05 02 FF 16 EC", K4, ONE, START, 0x00), ("B0 15 00 FC", F3, ONE, START, 0x00),
+    ("B0 05 03 00 15 00 88", F4, ONE, START, 0x00), ("B0 15 /", K7, ONE, START, 0x00),
     ("B0 06 02 00 16 /", K7, ONE, START, 0x00),
     // WRITE_PROTECT blocks both, but for 00h, whether they are carried or not.
-    ("B0 10 20 5D", None, ONE, START, 0x20),
-    ("B0 15 24", K5, ONE, START, 0x20),
-    ("B0 16 2D", K5, ONE, START, 0x20),
-    ("B0 05 02 01 15 27", K5, ONE, START, 0x20),
-    ("B0 05 02 02 15 18", K4, ONE, START, 0x20),
-    ("B0 10 40 7A", None, ONE, START, 0x40),
-    ("B0 15 24", K5, ONE, START, 0x40),
-    ("B0 16 2D", K5, ONE, START, 0x40),
-    ("B0 10 80 34", None, ONE, START, 0x80),
-    ("B0 15 24", K5, ONE, START, 0x80),
-    ("B0 05 02 00 16 3B", K5, ONE, START, 0x80),
-    ("B0 10 00 BD", None, ONE, START, 0x00),
+    ("B0 10 20 5D", None, ONE, START, 0x20), ("B0 15 24", K5, ONE, START, 0x20),
+    ("B0 16 2D", K5, ONE, START, 0x20), ("B0 05 02 01 15 27", K5, ONE, START, 0x20),
+    ("B0 05 02 02 15 18", K4, ONE, START, 0x20), ("B0 10 40 7A", None, ONE, START, 0x40),
+    ("B0 15 24", K5, ONE, START, 0x40), ("B0 16 2D", K5, ONE, START, 0x40),
+    ("B0 10 80 34", None, ONE, START, 0x80), ("B0 15 24", K5, ONE, START, 0x80),
+    ("B0 05 02 00 16 3B", K5, ONE, START, 0x80), ("B0 10 00 BD", None, ONE, START, 0x00),
     // On whichever page, both outputs are stored; a store heard twice is one.
-    ("B0 05 02 01 15 27", None, ONE, ONE, 0x00),
-    ("B0 05 02 01 15 27", None, ONE, ONE, 0x00),
+    ("B0 05 02 01 15 27", None, ONE, ONE, 0x00), ("B0 05 02 01 15 27", None, ONE, ONE, 0x00),
     ("B0 05 04 01 21 00 20 24", None, BOTH, ONE, 0x00),
     ("B0 15 24", None, BOTH, BOTH, 0x00),
-    (
-        "B0 05 04 00 21 00 10 A2",
-        None,
-        [0x1000, 0x2000],
-        BOTH,
-        0x00,
-    ),
+    ("B0 05 04 00 21 00 10 A2", None, [0x1000, 0x2000], BOTH, 0x00),
     ("B0 05 02 01 16 2E", None, BOTH, BOTH, 0x00),
-    (
-        "B0 05 04 00 21 00 10 A2",
-        None,
-        [0x1000, 0x2000],
-        BOTH,
-        0x00,
-    ),
+    ("B0 05 04 00 21 00 10 A2", None, [0x1000, 0x2000], BOTH, 0x00),
     // PAGE is left as it is.
     ("B0 00 01 ED", None, [0x1000, 0x2000], BOTH, 0x00),
-    ("B0 16 2D", None, BOTH, BOTH, 0x00),
-    ("B0 00 / B1 01 C5", None, BOTH, BOTH, 0x00),
+    ("B0 16 2D", None, BOTH, BOTH, 0x00), ("B0 00 / B1 01 C5", None, BOTH, BOTH, 0x00),
     // Before the restart that follows, which gives WRITE_PROTECT its start value.
-    ("B0 15 24", None, BOTH, BOTH, 0x00),
-    ("B0 10 20 5D", None, BOTH, BOTH, 0x20),
+    ("B0 15 24", None, BOTH, BOTH, 0x00), ("B0 10 20 5D", None, BOTH, BOTH, 0x20),
 ];
 
 fn holds(rt: &impl Abort, converter: &Converter, row: &Row) {
@@ -128,19 +105,12 @@ fn write_protect_is_not_stored(rt: HostRuntime) -> Result<(), Fail> {
 }
 
 // Each cell of both outputs gets another word; the store brings each back.
+#[rattlefmt::skip]
 static OTHERS: [&str; 12] = [
-    "B0 05 03 00 01 40 4C",
-    "B0 05 04 00 21 11 11 E7",
-    "B0 05 04 00 24 44 44 C6",
-    "B0 05 04 00 25 77 07 A5",
-    "B0 05 04 00 26 AA 0A 68",
-    "B0 05 04 00 2B DD 0A 30",
-    "B0 05 03 01 01 94 05",
-    "B0 05 04 01 21 22 22 AE",
-    "B0 05 04 01 24 55 55 E5",
-    "B0 05 04 01 25 88 08 49",
-    "B0 05 04 01 26 BB 0B 3B",
-    "B0 05 04 01 2B EE 0B E7",
+    "B0 05 03 00 01 40 4C", "B0 05 04 00 21 11 11 E7", "B0 05 04 00 24 44 44 C6",
+    "B0 05 04 00 25 77 07 A5", "B0 05 04 00 26 AA 0A 68", "B0 05 04 00 2B DD 0A 30",
+    "B0 05 03 01 01 94 05", "B0 05 04 01 21 22 22 AE", "B0 05 04 01 24 55 55 E5",
+    "B0 05 04 01 25 88 08 49", "B0 05 04 01 26 BB 0B 3B", "B0 05 04 01 2B EE 0B E7",
 ];
 
 fn is_stored(rt: &impl Abort, converter: &Converter, cell: Cell) {

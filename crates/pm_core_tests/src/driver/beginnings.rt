@@ -20,10 +20,7 @@ static PAGES: [([u8; 4], bool, u8); 2] = [
 
 // A request that is cut after its first byte, and whose answer is lost with it.
 fn cut() -> Fault {
-    Fault {
-        request: Arrival::Cut(1),
-        ..whole()
-    }
+    with! { Fault, whole(); request: Arrival::Cut(1) }
 }
 
 // How an order of VOUT_COMMAND, or a check if no word is given, ends for a new host of so many passes, and what that host says of
@@ -69,49 +66,38 @@ fn words(device: &Converter) -> ([u16; 2], [u16; 2], u8) {
 fn a_host_begins_at_any_page_beside_words_that_are_not_stored(rt: HostRuntime) {
     let config = Config { count: 4, ..BASE };
     for &(write, taken, page) in &PAGES {
-        match Converter::new(config) {
-            Ok(mut device) => {
-                let heard = device.hear(&write, Ending::Stop);
-                equal(&rt, &(heard == Heard::Taken), &taken, &1);
-                equal(&rt, &(device.status_cml() != 0), &!taken, &1);
-                let plan = [whole(), whole(), cut(), cut()];
-                let mut bus = SimulatedBus {
-                    device,
-                    plan: &plan,
-                    next: 0,
-                };
-                // An earlier host of three passes orders 34CDh of output 0, and stores nothing.
-                let done = Some((Some(JobEnd::Done), Standing::Confirmed(0x34CD)));
-                equal(&rt, &ended(&mut bus, 3, 0, Some(0x34CD)), &done, &2);
-                equal(
-                    &rt,
-                    &words(&bus.device),
-                    &([0x34CD, 0x1000], [0x1000, 0x1000], page),
-                    &3,
-                );
-                // A new host of five passes, two of whose requests are cut, reads what is held and not what is stored.
-                equal(&rt, &ended(&mut bus, 5, 0, None), &done, &4);
-                // Its order of output 1 reaches only that output.
-                let other = Some((Some(JobEnd::Done), Standing::Confirmed(0x2000)));
-                equal(&rt, &ended(&mut bus, 5, 1, Some(0x2000)), &other, &5);
-                equal(
-                    &rt,
-                    &words(&bus.device),
-                    &([0x34CD, 0x2000], [0x1000, 0x1000], page),
-                    &6,
-                );
-                // A restart of the part brings the stored words out, and PAGE 0.
-                bus.device.restart();
-                let start = Some((Some(JobEnd::Done), Standing::Confirmed(0x1000)));
-                equal(&rt, &ended(&mut bus, 5, 0, None), &start, &7);
-                equal(
-                    &rt,
-                    &words(&bus.device),
-                    &([0x1000, 0x1000], [0x1000, 0x1000], 0),
-                    &8,
-                );
-            }
-            Err(fault) => panic!(rt; "{fault}"),
+        let Ok(mut device) = Converter::new(config) else {
+            panic!(rt; "refused");
+        };
+        let heard = device.hear(&write, Ending::Stop);
+        equal(&rt, &(heard == Heard::Taken), &taken, &1);
+        equal(&rt, &(device.status_cml() != 0), &!taken, &1);
+        let plan = [whole(), whole(), cut(), cut()];
+        let mut bus = SimulatedBus {
+            device,
+            plan: &plan,
+            next: 0,
+        };
+        // An earlier host of three passes orders 34CDh of output 0, and stores nothing.
+        let done = Some((Some(JobEnd::Done), Standing::Confirmed(0x34CD)));
+        compare! { &rt;
+            2, ended(&mut bus, 3, 0, Some(0x34CD)) => done;
+            3, words(&bus.device) => ([0x34CD, 0x1000], [0x1000, 0x1000], page);
+            // A new host of five passes, two of whose requests are cut, reads what is held and not what is stored.
+            4, ended(&mut bus, 5, 0, None) => done;
+        }
+        // Its order of output 1 reaches only that output.
+        let other = Some((Some(JobEnd::Done), Standing::Confirmed(0x2000)));
+        compare! { &rt;
+            5, ended(&mut bus, 5, 1, Some(0x2000)) => other;
+            6, words(&bus.device) => ([0x34CD, 0x2000], [0x1000, 0x1000], page);
+        }
+        // A restart of the part brings the stored words out, and PAGE 0.
+        bus.device.restart();
+        let start = Some((Some(JobEnd::Done), Standing::Confirmed(0x1000)));
+        compare! { &rt;
+            7, ended(&mut bus, 5, 0, None) => start;
+            8, words(&bus.device) => ([0x1000, 0x1000], [0x1000, 0x1000], 0);
         }
     }
 }

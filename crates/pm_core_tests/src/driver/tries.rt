@@ -23,10 +23,7 @@ enum End {
 
 // The converter restarts before the frame.
 fn restarted() -> Fault {
-    Fault {
-        restarts: true,
-        ..whole()
-    }
+    with! { Fault, whole(); restarts: true }
 }
 
 fn end_of(end: CourseEnd) -> End {

@@ -1,71 +1,43 @@
 //! Which fault a host's call is refused by, row by row.
 
 use super::*;
-use crate::checks::equal;
 
 // Outputs and passes, and which of them is refused.
+#[rattlefmt::skip]
 static SETUPS: [(u8, u8, Option<HostFault>); 6] = [
-    (0, 0, Some(HostFault::OutputCount)),
-    (9, 16, Some(HostFault::OutputCount)),
-    (1, 0, Some(HostFault::Passes)),
-    (8, 16, Some(HostFault::Passes)),
-    (1, 1, None),
-    (8, 15, None),
+    (0, 0, Some(HostFault::OutputCount)), (9, 16, Some(HostFault::OutputCount)),
+    (1, 0, Some(HostFault::Passes)), (8, 16, Some(HostFault::Passes)), (1, 1, None), (8, 15, None),
 ];
 
 #[test]
 fn the_outputs_are_judged_before_the_passes(rt: HostRuntime) {
     for &(outputs, passes, wanted) in &SETUPS {
-        equal(
-            &rt,
-            &Host::new(0x08, outputs, passes).err(),
-            &wanted,
-            &(outputs, passes),
-        );
+        compare! { &rt, (outputs, passes); Host::new(0x08, outputs, passes).err() => wanted }
     }
 }
 
 // A learn over two reads, the first answers of which are no good.
+#[rattlefmt::skip]
 static LEARNED_LATE: [(Call<'static>, Answer); 5] = [
-    (Learn(0), BEGUN),
-    (Got(&[0xB1]), NEXT),
+    (Learn(0), BEGUN), (Got(&[0xB1]), NEXT),
     (Answered(READ_MODE, &[0x40]), NEXT),
     (Got(&[]), NEXT),
-    (
-        Answered(READ_COEFFICIENTS, &[0x01, 0x00, 0x00, 0x00, 0x03]),
-        LEARNED,
-    ),
+    (Answered(READ_COEFFICIENTS, &[0x01, 0x00, 0x00, 0x00, 0x03]), LEARNED),
 ];
 
 // Modes without a format, coefficients without one, no answer to either read.
+#[rattlefmt::skip]
 static NOTHING_LEARNED: [(Call<'static>, Answer); 21] = [
-    (Learn(0), BEGUN),
-    (Answered(READ_MODE, &[0x20]), UNKNOWN),
-    (Learn(0), BEGUN),
-    (Answered(READ_MODE, &[0x41]), UNKNOWN),
-    (Learn(0), BEGUN),
-    (Answered(READ_MODE, &[0x60]), UNKNOWN),
-    (Learn(0), BEGUN),
-    (Answered(READ_MODE, &[0x94]), UNKNOWN),
-    (Learn(0), BEGUN),
+    (Learn(0), BEGUN), (Answered(READ_MODE, &[0x20]), UNKNOWN), (Learn(0), BEGUN),
+    (Answered(READ_MODE, &[0x41]), UNKNOWN), (Learn(0), BEGUN),
+    (Answered(READ_MODE, &[0x60]), UNKNOWN), (Learn(0), BEGUN),
+    (Answered(READ_MODE, &[0x94]), UNKNOWN), (Learn(0), BEGUN),
     (Answered(READ_MODE, &[0x40]), NEXT),
-    (
-        Answered(READ_COEFFICIENTS, &[0x00, 0x00, 0x00, 0x00, 0x00]),
-        UNKNOWN,
-    ),
-    (Learn(0), BEGUN),
-    (Answered(READ_MODE, &[0x40]), NEXT),
-    (
-        Answered(READ_COEFFICIENTS, &[0x01, 0x00, 0x00, 0x00, 0x0D]),
-        UNKNOWN,
-    ),
-    (Learn(0), BEGUN),
-    (Got(&[]), NEXT),
-    (Got(&[]), UNKNOWN),
-    (Learn(0), BEGUN),
-    (Answered(READ_MODE, &[0x40]), NEXT),
-    (Got(&[]), NEXT),
-    (Got(&[]), UNKNOWN),
+    (Answered(READ_COEFFICIENTS, &[0x00, 0x00, 0x00, 0x00, 0x00]), UNKNOWN),
+    (Learn(0), BEGUN), (Answered(READ_MODE, &[0x40]), NEXT),
+    (Answered(READ_COEFFICIENTS, &[0x01, 0x00, 0x00, 0x00, 0x0D]), UNKNOWN),
+    (Learn(0), BEGUN), (Got(&[]), NEXT), (Got(&[]), UNKNOWN), (Learn(0), BEGUN),
+    (Answered(READ_MODE, &[0x40]), NEXT), (Got(&[]), NEXT), (Got(&[]), UNKNOWN),
 ];
 
 // 3300 millivolts.

@@ -56,20 +56,10 @@ fn a_band_is_what_the_words_can_command(rt: HostRuntime) {
     // A margin counts from the order of OPERATION on.
     read(&mut guard, Reg::MarginHigh, 13900);
     is_band(&rt, &guard, 4096, 13500, 13500);
-    equal(
-        &rt,
-        &refusal(&mut guard, Job::Order(first(Reg::Operation), 0xA8)),
-        &None,
-        &2,
-    );
+    compare! { &rt, 2; refusal(&mut guard, Job::Order(first(Reg::Operation), 0xA8)) => None }
     is_band(&rt, &guard, 4096, 13500, 13900);
     // An order that wasn't read back leaves both words.
-    equal(
-        &rt,
-        &refusal(&mut guard, Job::Order(first(Reg::VoutCommand), 13110)),
-        &None,
-        &3,
-    );
+    compare! { &rt, 3; refusal(&mut guard, Job::Order(first(Reg::VoutCommand), 13110)) => None }
     is_band(&rt, &guard, 4096, 13110, 13900);
 }
 
@@ -83,19 +73,9 @@ fn vout_max_wins_where_vout_min_is_above_it(rt: HostRuntime) {
     read(&mut guard, Reg::VoutMin, 14000);
     is_band(&rt, &guard, 4096, 13000, 13000);
     // VOUT_MIN may be lower too, which changes nothing, and VOUT_MAX may be higher than it.
-    equal(
-        &rt,
-        &refusal(&mut guard, Job::Order(first(Reg::VoutMin), 12000)),
-        &None,
-        &1,
-    );
+    compare! { &rt, 1; refusal(&mut guard, Job::Order(first(Reg::VoutMin), 12000)) => None }
     is_band(&rt, &guard, 4096, 13000, 13000);
-    equal(
-        &rt,
-        &refusal(&mut guard, Job::Order(first(Reg::VoutMax), 15000)),
-        &None,
-        &2,
-    );
+    compare! { &rt, 2; refusal(&mut guard, Job::Order(first(Reg::VoutMax), 15000)) => None }
     is_band(&rt, &guard, 4096, 13000, 14000);
 }
 

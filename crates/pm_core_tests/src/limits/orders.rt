@@ -60,37 +60,22 @@ fn goes(rt: &impl Abort, guard: &mut Guard, rows: &[(Call, Option<LimitFault>)])
 }
 
 // 3.2 V lies between the words 13107 and 13108, 3.465 V between 14192 and 14193.
+#[rattlefmt::skip]
 static WITHIN: [(Call, Option<LimitFault>); 21] = [
-    (Word(Reg::VoutCommand, 13107), BELOW),
-    (Word(Reg::VoutCommand, 13108), None),
-    (Word(Reg::VoutCommand, 14192), None),
-    (Word(Reg::VoutCommand, 14193), ABOVE),
-    (Word(Reg::VoutCommand, 0), BELOW),
-    (Word(Reg::VoutCommand, 0xFFFF), ABOVE),
-    (Word(Reg::VoutMax, 14192), None),
-    (Word(Reg::VoutMax, 14193), ABOVE),
-    (Word(Reg::VoutMin, 13107), BELOW),
-    (Word(Reg::VoutMin, 13108), None),
-    (Word(Reg::MarginHigh, 14192), None),
-    (Word(Reg::MarginHigh, 14193), ABOVE),
-    (Word(Reg::MarginLow, 13107), BELOW),
-    (Word(Reg::MarginLow, 13108), None),
+    (Word(Reg::VoutCommand, 13107), BELOW), (Word(Reg::VoutCommand, 13108), None),
+    (Word(Reg::VoutCommand, 14192), None), (Word(Reg::VoutCommand, 14193), ABOVE),
+    (Word(Reg::VoutCommand, 0), BELOW), (Word(Reg::VoutCommand, 0xFFFF), ABOVE),
+    (Word(Reg::VoutMax, 14192), None), (Word(Reg::VoutMax, 14193), ABOVE),
+    (Word(Reg::VoutMin, 13107), BELOW), (Word(Reg::VoutMin, 13108), None),
+    (Word(Reg::MarginHigh, 14192), None), (Word(Reg::MarginHigh, 14193), ABOVE),
+    (Word(Reg::MarginLow, 13107), BELOW), (Word(Reg::MarginLow, 13108), None),
     // The nearest word counts, and not what was asked: 3.2 V is ordered as 3.19995 V, 3.20012 V as 3.2002 V.
-    (Micro(Reg::VoutCommand, 3_200_000), BELOW),
-    (Micro(Reg::VoutCommand, 3_200_120), None),
-    (Micro(Reg::VoutCommand, 3_465_000), ABOVE),
-    (Micro(Reg::VoutCommand, 3_464_900), None),
+    (Micro(Reg::VoutCommand, 3_200_000), BELOW), (Micro(Reg::VoutCommand, 3_200_120), None),
+    (Micro(Reg::VoutCommand, 3_465_000), ABOVE), (Micro(Reg::VoutCommand, 3_464_900), None),
     (Micro(Reg::MarginHigh, 3_500_000), ABOVE),
     (WordAt(Cell::Out(1, Reg::VoutCommand), 0xFFFF), None),
     (WordAt(Cell::Protect, 0x00), None),
 ];
-
-#[test]
-fn a_voltage_is_judged_by_the_word_that_is_sent(rt: HostRuntime) {
-    let mut guard = guard(3_200_000, 3_465_000);
-    learn(&mut guard, 0, LINEAR, &[]);
-    goes(&rt, &mut guard, &WITHIN);
-}
 
 // A word below what was asked lies above the limit, though what was asked doesn't.
 static ASKED_BELOW: [(Call, Option<LimitFault>); 2] = [
@@ -124,38 +109,37 @@ fn a_limit_that_is_met_is_within(rt: HostRuntime) {
 }
 
 // With a slope below 0 the greater word is the lower voltage: E700h is 3.2 V, E4EEh is 3.465 V.
+#[rattlefmt::skip]
 static FALLING_WITHIN: [(Call, Option<LimitFault>); 8] = [
-    (Word(Reg::VoutCommand, 0xE700), None),
-    (Word(Reg::VoutCommand, 0xE701), BELOW),
-    (Word(Reg::VoutCommand, 0xE4EE), None),
-    (Word(Reg::VoutCommand, 0xE4ED), ABOVE),
-    (Word(Reg::VoutMax, 0x8000), ABOVE),
-    (Word(Reg::VoutMin, 0x7FFF), BELOW),
-    (Micro(Reg::MarginLow, 3_200_000), None),
-    (Micro(Reg::MarginLow, 3_199_500), BELOW),
+    (Word(Reg::VoutCommand, 0xE700), None), (Word(Reg::VoutCommand, 0xE701), BELOW),
+    (Word(Reg::VoutCommand, 0xE4EE), None), (Word(Reg::VoutCommand, 0xE4ED), ABOVE),
+    (Word(Reg::VoutMax, 0x8000), ABOVE), (Word(Reg::VoutMin, 0x7FFF), BELOW),
+    (Micro(Reg::MarginLow, 3_200_000), None), (Micro(Reg::MarginLow, 3_199_500), BELOW),
 ];
 
 #[test]
-fn a_slope_below_zero_turns_words_and_not_volts(rt: HostRuntime) {
-    let mut guard = guard(3_200_000, 3_465_000);
-    learn(&mut guard, 0, DIRECT, FALLING);
-    goes(&rt, &mut guard, &FALLING_WITHIN);
+fn voltages_are_judged_by_words_that_are_sent(rt: HostRuntime) {
+    // A slope below zero turns words and not volts.
+    for (mode, coefficients, rows) in [
+        (LINEAR, &[][..], &WITHIN[..]),
+        (DIRECT, FALLING, &FALLING_WITHIN[..]),
+    ] {
+        let mut guard = guard(3_200_000, 3_465_000);
+        learn(&mut guard, 0, mode, coefficients);
+        goes(&rt, &mut guard, rows);
+    }
 }
 
 // Before the format is known. An output is turned off all the same.
+#[rattlefmt::skip]
 static UNLEARNED: [(Call, Option<LimitFault>); 12] = [
     (WordAt(Cell::Out(2, Reg::VoutCommand), 0), ABSENT),
     (MicroAt(Cell::Out(2, Reg::Operation), 0), ABSENT),
-    (Word(Reg::VoutCommand, 13108), LIMITED),
-    (Word(Reg::VoutMax, 0xFFFF), LIMITED),
-    (Micro(Reg::VoutCommand, i64::MAX), NO_FORMAT),
-    (Micro(Reg::Operation, 0), BAD_WORD),
-    (MicroAt(Cell::Protect, 0), BAD_WORD),
-    (Word(Reg::Operation, 0x80), LIMITED),
-    (Word(Reg::Operation, 0xB0), BAD_WORD),
-    (Word(Reg::Operation, 0x180), BAD_WORD),
-    (Word(Reg::Operation, 0x00), None),
-    (Word(Reg::Operation, 0x40), None),
+    (Word(Reg::VoutCommand, 13108), LIMITED), (Word(Reg::VoutMax, 0xFFFF), LIMITED),
+    (Micro(Reg::VoutCommand, i64::MAX), NO_FORMAT), (Micro(Reg::Operation, 0), BAD_WORD),
+    (MicroAt(Cell::Protect, 0), BAD_WORD), (Word(Reg::Operation, 0x80), LIMITED),
+    (Word(Reg::Operation, 0xB0), BAD_WORD), (Word(Reg::Operation, 0x180), BAD_WORD),
+    (Word(Reg::Operation, 0x00), None), (Word(Reg::Operation, 0x40), None),
 ];
 
 // Orders in microvolts after the format is known: the refusals of a number come before those of the limits.
@@ -176,24 +160,11 @@ fn the_first_that_applies_refuses(rt: HostRuntime) {
     goes(&rt, &mut guard, &NUMBERS);
     let _ = guard.order(first(Reg::VoutCommand), 13200);
     let busy = Some(LimitFault::Host(HostFault::Busy));
-    equal(
-        &rt,
-        &guard.order(first(Reg::VoutCommand), 0).err(),
-        &busy,
-        &1,
-    );
-    equal(
-        &rt,
-        &guard.order_micro(first(Reg::VoutCommand), i64::MAX).err(),
-        &busy,
-        &2,
-    );
-    equal(
-        &rt,
-        &guard.order(Cell::Out(7, Reg::Operation), 0x80).err(),
-        &busy,
-        &3,
-    );
+    compare! { &rt;
+        1, guard.order(first(Reg::VoutCommand), 0).err() => busy;
+        2, guard.order_micro(first(Reg::VoutCommand), i64::MAX).err() => busy;
+        3, guard.order(Cell::Out(7, Reg::Operation), 0x80).err() => busy;
+    }
 }
 
 #[test]
@@ -202,31 +173,13 @@ fn the_limits_come_before_room(rt: HostRuntime) {
     learn(&mut guard, 0, LINEAR, &[]);
     read(&mut guard, Reg::VoutCommand, 13200);
     for word in 13201..13216 {
-        equal(
-            &rt,
-            &refusal(&mut guard, job(Word(Reg::VoutCommand, word))),
-            &None,
-            &word,
-        );
+        compare! { &rt, word; refusal(&mut guard, job(Word(Reg::VoutCommand, word))) => None }
     }
-    equal(
-        &rt,
-        &refusal(&mut guard, job(Word(Reg::VoutCommand, 13216))),
-        &FULL,
-        &1,
-    );
-    equal(
-        &rt,
-        &refusal(&mut guard, job(Word(Reg::VoutCommand, 13107))),
-        &BELOW,
-        &2,
-    );
-    equal(
-        &rt,
-        &refusal(&mut guard, job(Micro(Reg::VoutCommand, 3_400_000))),
-        &FULL,
-        &3,
-    );
+    compare! { &rt;
+        1, refusal(&mut guard, job(Word(Reg::VoutCommand, 13216))) => FULL;
+        2, refusal(&mut guard, job(Word(Reg::VoutCommand, 13107))) => BELOW;
+        3, refusal(&mut guard, job(Micro(Reg::VoutCommand, 3_400_000))) => FULL;
+    }
 }
 
 // Nothing was read but the format; then VOUT_COMMAND, and limits that lie farther out than the guard's.

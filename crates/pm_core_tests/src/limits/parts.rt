@@ -93,56 +93,43 @@ fn read_settings(guard: &mut Guard) {
 static ON: [u16; 3] = [0x80, 0xA8, 0x94];
 
 #[test]
-fn a_part_without_vout_min_is_turned_on_and_put_on_both_margins(rt: HostRuntime) {
-    let mut guard = guard_of(without_min());
-    equal(&rt, &guard.registers(), &without_min(), &0);
-    read_settings(&mut guard);
-    read(&mut guard, Reg::VoutMax, 5325);
-    is_band(&rt, &guard, 4096, 4096);
-    for byte in ON {
-        let job = Job::Order(first(Reg::Operation), byte);
-        equal(&rt, &refusal(&mut guard, job), &None, &byte);
-        equal(&rt, &is_within(&rt, &guard), &(Within::Yes, true), &byte);
+fn an_output_is_turned_on_by_the_registers_that_its_part_has(rt: HostRuntime) {
+    // The part's registers, the bound that is read, and its word; the band then; why each byte is refused; and the band at last.
+    #[rattlefmt::skip]
+    let rows = [
+        // A part without VOUT_MIN is turned on and put on both margins.
+        (without_min(), Reg::VoutMax, 5325, (4096, 4096), None, (3892, 4300)),
+        // A part without VOUT_MAX is cut by VOUT_MIN alone.
+        (without_max(), Reg::VoutMin, 4000, (4096, 4096), None, (4000, 4300)),
+        // Nothing is known to lie within the limits if the part has the register and it wasn't read.
+        (PartRegisters::all(), Reg::VoutMax, 5325, (4096, 5325), Some(LimitFault::NotKnownWithin),
+            (4096, 5325)),
+    ];
+    for (part, register, word, before, fault, at_last) in &rows {
+        let mut guard = guard_of(*part);
+        equal(&rt, &guard.registers(), part, &0);
+        read_settings(&mut guard);
+        read(&mut guard, *register, *word);
+        is_band(&rt, &guard, before.0, before.1);
+        for byte in ON {
+            let job = Job::Order(first(Reg::Operation), byte);
+            equal(&rt, &refusal(&mut guard, job), fault, &byte);
+            if fault.is_none() {
+                equal(&rt, &is_within(&rt, &guard), &(Within::Yes, true), &byte);
+            }
+        }
+        is_band(&rt, &guard, at_last.0, at_last.1);
     }
-    is_band(&rt, &guard, 3892, 4300);
-}
-
-#[test]
-fn a_part_without_vout_max_is_cut_by_vout_min_alone(rt: HostRuntime) {
-    let mut guard = guard_of(without_max());
-    read_settings(&mut guard);
-    read(&mut guard, Reg::VoutMin, 4000);
-    for byte in ON {
-        let job = Job::Order(first(Reg::Operation), byte);
-        equal(&rt, &refusal(&mut guard, job), &None, &byte);
-    }
-    is_band(&rt, &guard, 4000, 4300);
-}
-
-// Nothing is known to lie within the limits if the part has the register and it wasn't read.
-#[test]
-fn a_register_that_is_there_has_to_be_read(rt: HostRuntime) {
-    let mut guard = guard_of(PartRegisters::all());
-    read_settings(&mut guard);
-    read(&mut guard, Reg::VoutMax, 5325);
-    let unsure = Some(LimitFault::NotKnownWithin);
-    for byte in ON {
-        let job = Job::Order(first(Reg::Operation), byte);
-        equal(&rt, &refusal(&mut guard, job), &unsure, &byte);
-    }
-    is_band(&rt, &guard, 4096, 5325);
 }
 
 const ABSENT: Option<LimitFault> = Some(LimitFault::Host(HostFault::UnknownOutput));
 
 // At a part without VOUT_MIN and without margins, before the format is known.
+#[rattlefmt::skip]
 static JOBS: [(Job, Option<LimitFault>); 15] = [
     (Job::Order(Cell::Out(0, Reg::VoutMin), 0), MISSING),
     (Job::OrderMicro(Cell::Out(0, Reg::VoutMin), 0), MISSING),
-    (
-        Job::OrderMicro(Cell::Out(0, Reg::VoutMin), i64::MAX),
-        MISSING,
-    ),
+    (Job::OrderMicro(Cell::Out(0, Reg::VoutMin), i64::MAX), MISSING),
     (Job::Check(Cell::Out(0, Reg::VoutMin)), MISSING),
     (Job::Check(Cell::Out(0, Reg::MarginHigh)), MISSING),
     (Job::Check(Cell::Out(0, Reg::MarginLow)), MISSING),
@@ -152,10 +139,7 @@ static JOBS: [(Job, Option<LimitFault>); 15] = [
     (Job::Order(Cell::Out(1, Reg::Operation), 0xA4), MISSING),
     (Job::Order(Cell::Out(2, Reg::VoutMin), 0), ABSENT),
     (Job::Check(Cell::Out(2, Reg::VoutMin)), ABSENT),
-    (
-        Job::Order(Cell::Out(0, Reg::Operation), 0x80),
-        Some(LimitFault::FormatUnknown),
-    ),
+    (Job::Order(Cell::Out(0, Reg::Operation), 0x80), Some(LimitFault::FormatUnknown)),
     (Job::Order(Cell::Out(0, Reg::Operation), 0x00), None),
     (Job::Check(Cell::Out(0, Reg::VoutMax)), None),
 ];
@@ -170,32 +154,20 @@ fn a_job_on_a_missing_register_is_refused(rt: HostRuntime) {
         equal(&rt, &refusal(&mut guard, *job), wanted, &(at, job));
     }
     let _ = guard.check(first(Reg::VoutMax));
-    equal(
-        &rt,
-        &guard.check(first(Reg::VoutMin)).err(),
-        &BUSY,
-        &"a job is open",
-    );
-    equal(
-        &rt,
-        &LimitFault::MissingRegister.words(),
-        &"L7 MissingRegister",
-        &1,
-    );
-    equal(&rt, &LimitFault::MissingRegister.number(), &0x27, &2);
-    equal(&rt, &LimitFault::FormatUnknown.number(), &0x22, &3);
+    compare! { &rt;
+        "a job is open", guard.check(first(Reg::VoutMin)).err() => BUSY;
+        1, LimitFault::MissingRegister.words() => "L7 MissingRegister";
+        2, LimitFault::MissingRegister.number() => 0x27;
+        3, LimitFault::FormatUnknown.number() => 0x22;
+    }
 }
 
 // The byte that is read of OPERATION, and the least and the greatest over 4096 that the output may command then, if it
 // has a band: VOUT_COMMAND is 1 V, VOUT_MARGIN_HIGH 3 V, VOUT_MARGIN_LOW 0.5 V.
+#[rattlefmt::skip]
 static BYTES: [(u16, Option<(i128, i128)>); 8] = [
-    (0x80, Some((4096, 4096))),
-    (0xA8, Some((12288, 12288))),
-    (0x30, Some((4096, 4096))),
-    (0xA0, Some((2048, 12288))),
-    (0xC0, Some((2048, 12288))),
-    (0xB0, None),
-    (0xBF, None),
+    (0x80, Some((4096, 4096))), (0xA8, Some((12288, 12288))), (0x30, Some((4096, 4096))),
+    (0xA0, Some((2048, 12288))), (0xC0, Some((2048, 12288))), (0xB0, None), (0xBF, None),
     (0xF0, None),
 ];
 
@@ -249,12 +221,7 @@ fn limits_that_refuse_an_open_order_are_refused(rt: HostRuntime) {
     for told in [false, true] {
         let mut guard = guard(3_200_000, 3_465_000);
         learn(&mut guard, 0, LINEAR, &[]);
-        equal(
-            &rt,
-            &guard.order(first(Reg::VoutCommand), 14192).err(),
-            &None,
-            &told,
-        );
+        compare! { &rt, told; guard.order(first(Reg::VoutCommand), 14192).err() => None }
         if told {
             let _ = guard.turn();
             tell_finished(&rt, &mut guard);
@@ -265,12 +232,7 @@ fn limits_that_refuse_an_open_order_are_refused(rt: HostRuntime) {
         }
         equal(&rt, &guard.narrow(1, 0, 1).err(), &None, &told);
         give_up(&mut guard);
-        equal(
-            &rt,
-            &guard.narrow(0, 3_300_000, 3_400_000).err(),
-            &None,
-            &told,
-        );
+        compare! { &rt, told; guard.narrow(0, 3_300_000, 3_400_000).err() => None }
     }
 }
 
@@ -363,32 +325,13 @@ fn a_plan_needs_no_missing_register(rt: HostRuntime) {
 }
 
 // Whether a part has VOUT_MAX, the margins, high first, and VOUT_MIN; the word of each of its registers; whether a survey ends by its own rule, and after how many jobs.
+#[rattlefmt::skip]
 static SURVEYS: [([bool; 4], [u16; 6], (bool, u16)); 5] = [
-    (
-        [true, true, true, true],
-        [0x80, 4096, 5325, 0, 0, 0],
-        (true, 5),
-    ),
-    (
-        [true, true, true, false],
-        [0x80, 4096, 5325, 0, 0, 0],
-        (true, 4),
-    ),
-    (
-        [false, true, true, true],
-        [0x80, 4096, 5325, 0, 0, 0],
-        (true, 4),
-    ),
-    (
-        [true, false, false, true],
-        [0x80, 4096, 5325, 0, 0, 0],
-        (true, 5),
-    ),
-    (
-        [true, false, false, true],
-        [0xA8, 4096, 5325, 0, 0, 0],
-        (false, 4),
-    ),
+    ([true, true, true, true], [0x80, 4096, 5325, 0, 0, 0], (true, 5)),
+    ([true, true, true, false], [0x80, 4096, 5325, 0, 0, 0], (true, 4)),
+    ([false, true, true, true], [0x80, 4096, 5325, 0, 0, 0], (true, 4)),
+    ([true, false, false, true], [0x80, 4096, 5325, 0, 0, 0], (true, 5)),
+    ([true, false, false, true], [0xA8, 4096, 5325, 0, 0, 0], (false, 4)),
 ];
 
 #[test]

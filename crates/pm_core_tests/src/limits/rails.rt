@@ -116,19 +116,14 @@ const LOW: Selected = Selected::Register(Reg::MarginLow);
 
 // The byte that is read of OPERATION, the one that is ordered then, whose answers are all lost, and which register has the
 // voltage, whichever of the two is held. A byte that OPERATION doesn't take isn't ordered.
+#[rattlefmt::skip]
 static SELECTIONS: [(u16, u16, Selected); 12] = [
-    (0x00, 0x80, COMMAND),
-    (0x8F, 0x40, COMMAND),
-    (0x80, 0xA8, Selected::NotKnown),
+    (0x00, 0x80, COMMAND), (0x8F, 0x40, COMMAND), (0x80, 0xA8, Selected::NotKnown),
     (0x3F, 0x94, Selected::NotKnown), // 00111111 is off, whatever its other bits are
-    (0xA4, 0xAB, HIGH),
-    (0xA8, 0x98, Selected::NotKnown),
-    (0x94, 0x9B, LOW),
+    (0xA4, 0xAB, HIGH), (0xA8, 0x98, Selected::NotKnown), (0x94, 0x9B, LOW),
     (0xB0, 0xB0, Selected::AvsBus), // bits 5 and 4 are 11
-    (0xF8, 0xF8, Selected::AvsBus),
-    (0xB0, 0x80, Selected::NotKnown),
-    (0x90, 0x90, Selected::NotKnown),
-    (0xA0, 0x80, Selected::NotKnown),
+    (0xF8, 0xF8, Selected::AvsBus), (0xB0, 0x80, Selected::NotKnown),
+    (0x90, 0x90, Selected::NotKnown), (0xA0, 0x80, Selected::NotKnown),
 ];
 
 #[test]
@@ -139,13 +134,10 @@ fn a_rail_says_which_register_has_its_voltage(rt: HostRuntime) {
         let begun = guard.order(operation, *ordered).is_ok();
         equal(&rt, &begun, &operation.accepts(*ordered), held);
         give_up(&mut guard);
-        equal(&rt, &rail_at(&rt, &guard, 0).selected, selected, held);
-        equal(
-            &rt,
-            &rail_at(&rt, &guard, 1).selected,
-            &Selected::NotKnown,
-            held,
-        );
+        compare! { &rt, held;
+            rail_at(&rt, &guard, 0).selected => *selected;
+            rail_at(&rt, &guard, 1).selected => Selected::NotKnown;
+        }
     }
 }
 

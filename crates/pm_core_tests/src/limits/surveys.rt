@@ -55,80 +55,29 @@ fn survey(
 
 // Whether what is read before the survey, what the converter holds then, what is wanted, the tries; whether it ends by
 // its own rule, and after how many jobs.
+#[rattlefmt::skip]
 static SURVEYS: [([u16; 6], [u16; 6], Option<Wishes>, u16, (bool, u16)); 9] = [
     // a learn, OPERATION, VOUT_COMMAND, VOUT_MAX, VOUT_MIN
-    (
-        [0x80, 1, 2, 3, 4, 5],
-        [0x80, 1, 2, 3, 4, 5],
-        None,
-        30,
-        (true, 5),
-    ),
+    ([0x80, 1, 2, 3, 4, 5], [0x80, 1, 2, 3, 4, 5], None, 30, (true, 5)),
     // what was read before is read again; the first answer shows a restart
-    (
-        [0x80, 1, 2, 3, 4, 5],
-        [0xA8, 1, 2, 3, 4, 5],
-        None,
-        30,
-        (true, 5),
-    ),
+    ([0x80, 1, 2, 3, 4, 5], [0xA8, 1, 2, 3, 4, 5], None, 30, (true, 5)),
     // the last answer shows one: all but that register once more
-    (
-        [0x80, 1, 2, 3, 4, 5],
-        [0x80, 1, 2, 3, 4, 9],
-        None,
-        30,
-        (true, 8),
-    ),
+    ([0x80, 1, 2, 3, 4, 5], [0x80, 1, 2, 3, 4, 9], None, 30, (true, 8)),
     // for a plan: a margin and WRITE_PROTECT too
-    (
-        [0x80, 1, 2, 3, 4, 5],
-        [0x80, 1, 2, 3, 4, 5],
-        Some([None, None, None, Some(7), None]),
-        30,
-        (true, 7),
-    ),
+    ([0x80, 1, 2, 3, 4, 5], [0x80, 1, 2, 3, 4, 5], Some([None, None, None, Some(7), None]), 30,
+        (true, 7)),
     // on margin low
-    (
-        [0x94, 1, 2, 3, 4, 5],
-        [0x94, 1, 2, 3, 4, 5],
-        None,
-        30,
-        (true, 5),
-    ),
+    ([0x94, 1, 2, 3, 4, 5], [0x94, 1, 2, 3, 4, 5], None, 30, (true, 5)),
     // on margin high, if the last answer shows a restart: OPERATION isn't known then, so that VOUT_COMMAND is read too, and
     // then all but these two once more
-    (
-        [0xA8, 1, 2, 3, 4, 5],
-        [0xA8, 1, 2, 3, 4, 9],
-        None,
-        30,
-        (true, 9),
-    ),
+    ([0xA8, 1, 2, 3, 4, 5], [0xA8, 1, 2, 3, 4, 9], None, 30, (true, 9)),
     // for a plan of every register: a learn, and one check less than two for each of seven cells
-    (
-        [0x80, 1, 2, 3, 4, 5],
-        [0x80, 1, 2, 3, 4, 9],
-        Some([Some(1), Some(2), Some(3), Some(4), Some(9)]),
-        30,
-        (true, 13),
-    ),
+    ([0x80, 1, 2, 3, 4, 5], [0x80, 1, 2, 3, 4, 9],
+        Some([Some(1), Some(2), Some(3), Some(4), Some(9)]), 30, (true, 13)),
     // tries are over
-    (
-        [0x80, 1, 2, 3, 4, 5],
-        [0x80, 1, 2, 3, 4, 5],
-        None,
-        4,
-        (false, 4),
-    ),
+    ([0x80, 1, 2, 3, 4, 5], [0x80, 1, 2, 3, 4, 5], None, 4, (false, 4)),
     // OPERATION is a byte that its cell doesn't take: it isn't known, whatever is read
-    (
-        [0x80, 1, 2, 3, 4, 5],
-        [0xA0, 1, 2, 3, 4, 5],
-        None,
-        9,
-        (false, 9),
-    ),
+    ([0x80, 1, 2, 3, 4, 5], [0xA0, 1, 2, 3, 4, 5], None, 9, (false, 9)),
 ];
 
 #[test]
@@ -140,12 +89,7 @@ fn a_survey_reads_what_decides(rt: HostRuntime) {
             Some(wishes) => Some(wanted(wishes)),
             None => None,
         };
-        equal(
-            &rt,
-            &survey(&rt, &mut guard, plan, *tries, words),
-            end,
-            &(before, words),
-        );
+        compare! { &rt, (before, words); survey(&rt, &mut guard, plan, *tries, words) => *end }
     }
 }
 
@@ -153,19 +97,9 @@ fn a_survey_reads_what_decides(rt: HostRuntime) {
 fn a_check_without_an_answer_is_asked_for_again(rt: HostRuntime) {
     let guard = knowing(0, false, &each(&[0x80, 1, 2, 3, 4, 5]), None);
     let mut survey = Survey::new(0, None, 9);
-    equal(
-        &rt,
-        &asks(&rt, &mut survey, &guard),
-        &Some(Job::Learn(0)),
-        &1,
-    );
+    compare! { &rt, 1; asks(&rt, &mut survey, &guard) => Some(Job::Learn(0)) }
     survey.told(JobEnd::Unknown);
-    equal(
-        &rt,
-        &asks(&rt, &mut survey, &guard),
-        &Some(Job::Learn(0)),
-        &2,
-    );
+    compare! { &rt, 2; asks(&rt, &mut survey, &guard) => Some(Job::Learn(0)) }
     survey.told(JobEnd::Learned);
     let check = Some(Job::Check(first(Reg::Operation)));
     equal(&rt, &asks(&rt, &mut survey, &guard), &check, &3);

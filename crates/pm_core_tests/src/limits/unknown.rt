@@ -15,11 +15,8 @@ const ABSENT: Option<LimitFault> = Some(LimitFault::Host(HostFault::UnknownOutpu
 
 // A guard of two outputs, of which no limits are known, and a part without margins.
 fn guard() -> Guard {
-    let part = PartRegisters {
-        vout_margin_high: false,
-        vout_margin_low: false,
-        ..PartRegisters::all()
-    };
+    let part = with! { PartRegisters, PartRegisters::all();
+        vout_margin_high: false, vout_margin_low: false };
     match Guard::of_part(0x58, 2, 1, [OutputLimits::Unknown; 8], part) {
         Ok(guard) => guard,
         Err(_) => unreachable!(),
@@ -43,28 +40,21 @@ fn what_would_command_a_voltage_is_refused(rt: HostRuntime) {
     let bad = Some(LimitFault::Host(HostFault::BadWord));
     let unlearned = Some(LimitFault::Host(HostFault::FormatUnknown));
     let least = Some(LimitFault::Host(HostFault::Num(NumFault::BelowLeast)));
+    #[rattlefmt::skip]
     let rows = [
         // Before a format is learned: of a word no format is asked for.
-        (word(Reg::VoutCommand, 0x34CD), NO_LIMITS),
-        (word(Reg::VoutMax, 0x34CD), NO_LIMITS),
-        (word(Reg::VoutMin, 0x34CD), NO_LIMITS),
-        (word(Reg::MarginHigh, 0x34CD), missing),
+        (word(Reg::VoutCommand, 0x34CD), NO_LIMITS), (word(Reg::VoutMax, 0x34CD), NO_LIMITS),
+        (word(Reg::VoutMin, 0x34CD), NO_LIMITS), (word(Reg::MarginHigh, 0x34CD), missing),
         (micro(Reg::VoutCommand, 3_300_000), unlearned),
         (micro(Reg::MarginLow, 3_300_000), missing),
         // A byte that leaves the output on, by whatever it selects.
-        (word(Reg::Operation, 0x80), NO_LIMITS),
-        (word(Reg::Operation, 0x94), missing),
+        (word(Reg::Operation, 0x80), NO_LIMITS), (word(Reg::Operation, 0x94), missing),
         // One that turns it off, and one that isn't taken.
-        (word(Reg::Operation, 0x00), None),
-        (word(Reg::Operation, 0x40), None),
+        (word(Reg::Operation, 0x00), None), (word(Reg::Operation, 0x40), None),
         (word(Reg::Operation, 0xB0), bad),
         // Other registers and jobs aren't concerned.
-        (Job::Order(Cell::Protect, 0x00), None),
-        (Job::Check(first(Reg::VoutCommand)), None),
-        (
-            Job::Order(Cell::Out(1, Reg::VoutCommand), 0x34CD),
-            NO_LIMITS,
-        ),
+        (Job::Order(Cell::Protect, 0x00), None), (Job::Check(first(Reg::VoutCommand)), None),
+        (Job::Order(Cell::Out(1, Reg::VoutCommand), 0x34CD), NO_LIMITS),
         (Job::Order(Cell::Out(2, Reg::VoutCommand), 0x34CD), ABSENT),
     ];
     for (at, (job, wanted)) in rows.iter().enumerate() {
@@ -90,20 +80,12 @@ fn limits_or_the_word_that_there_are_none_end_it(rt: HostRuntime) {
     let mut guard = guard();
     learn(&mut guard, 0, LINEAR, &[]);
     learn(&mut guard, 1, LINEAR, &[]);
-    equal(&rt, &guard.no_limits(2).err(), &ABSENT, &1);
-    equal(&rt, &guard.no_limits(0), &Ok(()), &2);
-    equal(
-        &rt,
-        &refusal(&mut guard, word(Reg::VoutCommand, 0xFFFF)),
-        &None,
-        &3,
-    );
-    equal(
-        &rt,
-        &refusal(&mut guard, word(Reg::Operation, 0x80)),
-        &None,
-        &4,
-    );
+    compare! { &rt;
+        1, guard.no_limits(2).err() => ABSENT;
+        2, guard.no_limits(0) => Ok(());
+        3, refusal(&mut guard, word(Reg::VoutCommand, 0xFFFF)) => None;
+        4, refusal(&mut guard, word(Reg::Operation, 0x80)) => None;
+    }
     // The other output isn't concerned.
     let other = Job::Order(Cell::Out(1, Reg::VoutCommand), 0x34CD);
     equal(&rt, &refusal(&mut guard, other), &NO_LIMITS, &5);
@@ -112,29 +94,18 @@ fn limits_or_the_word_that_there_are_none_end_it(rt: HostRuntime) {
     // Limits that are given later end it, and stay.
     equal(&rt, &guard.narrow(0, 3_200_000, 3_465_000), &Ok(()), &8);
     let below = Some(LimitFault::BelowLimit);
-    equal(
-        &rt,
-        &refusal(&mut guard, word(Reg::VoutCommand, 13107)),
-        &below,
-        &9,
-    );
+    compare! { &rt, 9; refusal(&mut guard, word(Reg::VoutCommand, 13107)) => below }
     let widened = Some(LimitFault::LimitsWidened);
-    equal(&rt, &guard.no_limits(0).err(), &widened, &10);
-    equal(
-        &rt,
-        &refusal(&mut guard, word(Reg::VoutCommand, 13107)),
-        &below,
-        &11,
-    );
+    compare! { &rt;
+        10, guard.no_limits(0).err() => widened;
+        11, refusal(&mut guard, word(Reg::VoutCommand, 13107)) => below;
+    }
     // It may be said while an order is open.
     let mut open = guard_of_none();
-    equal(
-        &rt,
-        &open.begin(word(Reg::VoutCommand, 0x34CD)),
-        &Ok(()),
-        &12,
-    );
-    equal(&rt, &open.no_limits(0), &Ok(()), &13);
+    compare! { &rt;
+        12, open.begin(word(Reg::VoutCommand, 0x34CD)) => Ok(());
+        13, open.no_limits(0) => Ok(());
+    }
 }
 
 // A guard of one output that is said to have no limits.

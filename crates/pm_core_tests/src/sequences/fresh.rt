@@ -42,13 +42,10 @@ fn all_that_decides_is_read_directly_before_the_order(rt: HostRuntime) {
     ];
     for (name, looks, codes) in &rows {
         let (run, part) = turned_on(&rt, UP, *looks, guard(&rt), PART);
-        equal(
-            &rt,
-            &(run.end, part.writes, part.words[0][0]),
-            &(Some(End::Reached), 1, 0x80),
-            name,
-        );
-        equal(&rt, &part.frames, &codes.len(), name);
+        compare! { &rt, name;
+            (run.end, part.writes, part.words[0][0]) => (Some(End::Reached), 1, 0x80);
+            part.frames => codes.len();
+        }
         for (code, wanted) in part.codes.iter().zip(codes.iter()) {
             equal(&rt, code, wanted, name);
         }
@@ -72,38 +69,20 @@ fn no_order_goes_into_a_part_that_came_up_anew(rt: HostRuntime) {
         number: 0x25,
         register: Some(Code::OPERATION),
     })));
-    let going = Rules {
-        leaves: false,
-        ..DOWN
-    };
+    let going = with! { Rules, DOWN; leaves: false };
     // The rules, after how many frames it restarts, how many it doesn't answer then, and how the list ends.
+    #[rattlefmt::skip]
     let rows: [(&'static str, Rules, usize, usize, End); 5] = [
         ("in the look before the order", UP, 10, 0, restarted),
         ("after the look", UP, 14, 0, restarted),
         ("after VOUT_COMMAND was read", UP, 17, 1, restarted),
         ("after the look, and the list goes on", going, 14, 0, above),
-        (
-            "after VOUT_COMMAND was read, and the list goes on",
-            going,
-            17,
-            1,
-            above,
-        ),
+        ("after VOUT_COMMAND was read, and the list goes on", going, 17, 1, above),
     ];
     for (name, rules, frames, silent, end) in &rows {
-        let part = Part {
-            restarts: Some(*frames),
-            anew: ANEW,
-            silent: *silent,
-            ..PART
-        };
+        let part = with! { Part, PART; restarts: Some(*frames), anew: ANEW, silent: *silent };
         let (run, part) = turned_on(&rt, *rules, LOOKS, narrowed(&rt), part);
-        equal(
-            &rt,
-            &(run.end, part.writes, part.words[0]),
-            &(Some(*end), 0, ANEW),
-            name,
-        );
+        compare! { &rt, name; (run.end, part.writes, part.words[0]) => (Some(*end), 0, ANEW) }
     }
 }
 
@@ -111,21 +90,14 @@ fn no_order_goes_into_a_part_that_came_up_anew(rt: HostRuntime) {
 fn a_look_that_finds_a_part_anew_ends_at_once(rt: HostRuntime) {
     let restarted = End::Stopped(StepEnd::Restarted);
     let off = End::Does(Verdict::IsOff);
-    let going = Rules {
-        leaves: false,
-        ..DOWN
-    };
+    let going = with! { Rules, DOWN; leaves: false };
     // The rules, how the list ends, and how many frames are sent: STATUS_WORD and OPERATION, or these in each of four rounds.
     let rows: [(&'static str, Rules, End, usize); 2] = [
         ("a list that a restart ends", UP, restarted, 29),
         ("a list that goes on", going, off, 35),
     ];
     for (name, rules, end, frames) in &rows {
-        let part = Part {
-            restarts: Some(27),
-            anew: ANEW,
-            ..PART
-        };
+        let part = with! { Part, PART; restarts: Some(27), anew: ANEW };
         let (run, part) = turned_on(&rt, *rules, LOOKS, guard(&rt), part);
         equal(&rt, &(run.end, part.frames), &(Some(*end), *frames), name);
     }
@@ -135,47 +107,17 @@ fn a_look_that_finds_a_part_anew_ends_at_once(rt: HostRuntime) {
 fn a_voltage_above_its_limit_ends_at_once_unless_it_was_lowered(rt: HostRuntime) {
     let outside = End::Does(Verdict::OutsideLimits);
     // OPERATION before, the voltage that it has then, the step, for how many reads READ_VOUT is above the limit, and how the list ends.
+    #[rattlefmt::skip]
     let rows: [(&'static str, u16, u16, Step, usize, End); 6] = [
-        (
-            "raised",
-            0x80,
-            0x0E00,
-            sets(0, 0, 1_000_000, LOOKS),
-            2,
-            outside,
-        ),
-        (
-            "lowered",
-            0x80,
-            0x1180,
-            sets(0, 0, 1_000_000, LOOKS),
-            2,
-            End::Reached,
-        ),
-        (
-            "lowered, and not in time",
-            0x80,
-            0x1180,
-            sets(0, 0, 1_000_000, LOOKS),
-            9,
-            outside,
-        ),
+        ("raised", 0x80, 0x0E00, sets(0, 0, 1_000_000, LOOKS), 2, outside),
+        ("lowered", 0x80, 0x1180, sets(0, 0, 1_000_000, LOOKS), 2, End::Reached),
+        ("lowered, and not in time", 0x80, 0x1180, sets(0, 0, 1_000_000, LOOKS), 9, outside),
         ("turned on", 0x00, 0x1000, on(0, 0, LOOKS), 2, outside),
-        (
-            "from margin high",
-            0xA8,
-            0x1000,
-            on(0, 0, LOOKS),
-            2,
-            End::Reached,
-        ),
+        ("from margin high", 0xA8, 0x1000, on(0, 0, LOOKS), 2, End::Reached),
         ("from margin low", 0x98, 0x1000, on(0, 0, LOOKS), 2, outside),
     ];
     for (name, operation, command, step, ramps, end) in &rows {
-        let mut parts = [Part {
-            ramps: *ramps,
-            ..PART
-        }];
+        let mut parts = [with! { Part, PART; ramps: *ramps }];
         parts[0].words[0][0] = *operation;
         parts[0].words[0][1] = *command;
         let run = carried(
@@ -199,29 +141,19 @@ static LOST: [u8; 37] = [
 fn an_order_is_written_once_a_job(rt: HostRuntime) {
     let lost = Part { loses: 1, ..PART };
     let (run, part) = turned_on(&rt, UP, LOOKS, guard(&rt), lost);
-    equal(
-        &rt,
-        &(run.end, part.writes, part.words[0][0]),
-        &(Some(End::Reached), 2, 0x80),
-        &"lost once",
-    );
+    compare! { &rt, "lost once";
+        (run.end, part.writes, part.words[0][0]) => (Some(End::Reached), 2, 0x80) }
     for (code, wanted) in part.codes.iter().zip(LOST.iter()) {
         equal(&rt, code, wanted, &"lost once");
     }
     // The part hears the order, and comes up anew before it is read back, or once it was in the first pass.
     for frames in [21usize, 22] {
-        let anew = Part {
-            restarts: Some(frames),
-            anew: ANEW,
-            ..PART
-        };
+        let anew = with! { Part, PART; restarts: Some(frames), anew: ANEW };
         let (run, part) = turned_on(&rt, UP, LOOKS, narrowed(&rt), anew);
-        equal(
-            &rt,
-            &(run.end, part.writes, part.words[0]),
-            &(Some(End::Stopped(StepEnd::Restarted)), 1, ANEW),
-            &frames,
-        );
+        compare! { &rt, frames;
+            (run.end, part.writes, part.words[0]) =>
+                (Some(End::Stopped(StepEnd::Restarted)), 1, ANEW);
+        }
     }
 }
 
@@ -238,17 +170,8 @@ fn a_step_has_two_orders_at_most_that_turn_on(rt: HostRuntime) {
         (100, 2, spent, 2),
     ];
     for (loses, mutes, end, writes) in &rows {
-        let part = Part {
-            loses: *loses,
-            mutes: *mutes,
-            ..PART
-        };
+        let part = with! { Part, PART; loses: *loses, mutes: *mutes };
         let (run, part) = turned_on(&rt, UP, LOOKS, guard(&rt), part);
-        equal(
-            &rt,
-            &(run.end, part.writes),
-            &(Some(*end), *writes),
-            &(*loses, *mutes),
-        );
+        compare! { &rt, (*loses, *mutes); (run.end, part.writes) => (Some(*end), *writes) }
     }
 }

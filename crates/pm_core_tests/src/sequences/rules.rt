@@ -25,25 +25,13 @@ fn a_list_that_asks_tells_each_order_first(rt: HostRuntime) {
         ("down", DOWN, down, 3),
     ];
     for (name, rules, steps, orders) in &rows {
-        let asking = Rules {
-            asks: true,
-            ..*rules
-        };
+        let asking = with! { Rules, *rules; asks: true };
         let (plain, written) = over(&rt, *rules, [PART, PART], steps);
         let (run, parts) = over(&rt, asking, [PART, PART], steps);
-        equal(
-            &rt,
-            &(plain.orders, run.orders, run.end),
-            &(0, *orders, Some(End::Reached)),
-            name,
-        );
+        compare! { &rt, name;
+            (plain.orders, run.orders, run.end) => (0, *orders, Some(End::Reached)) }
         for (part, other) in parts.iter().zip(written.iter()) {
-            equal(
-                &rt,
-                &(part.frames, part.writes),
-                &(other.frames, other.writes),
-                name,
-            );
+            compare! { &rt, name; (part.frames, part.writes) => (other.frames, other.writes) }
         }
     }
 }
@@ -52,21 +40,14 @@ fn a_list_that_asks_tells_each_order_first(rt: HostRuntime) {
 fn another_order_than_the_one_told_is_told_first(rt: HostRuntime) {
     let asking = Rules { asks: true, ..DOWN };
     let is_off = Job::Order(Cell::Out(0, Reg::Operation), 0x00);
+    #[rattlefmt::skip]
     let rows = [
         ("nothing was told", None, Act::Order(is_off), Some(is_off)),
         ("it was told", Some(is_off), Act::Job(is_off), None),
-        (
-            "another byte was",
-            Some(Job::Order(Cell::Out(0, Reg::Operation), 0x40)),
-            Act::Order(is_off),
-            Some(is_off),
-        ),
-        (
-            "the same byte of another output was",
-            Some(Job::Order(Cell::Out(1, Reg::Operation), 0x00)),
-            Act::Order(is_off),
-            Some(is_off),
-        ),
+        ("another byte was", Some(Job::Order(Cell::Out(0, Reg::Operation), 0x40)),
+            Act::Order(is_off), Some(is_off)),
+        ("the same byte of another output was",
+            Some(Job::Order(Cell::Out(1, Reg::Operation), 0x00)), Act::Order(is_off), Some(is_off)),
     ];
     for (name, told, act, then) in &rows {
         let guard = guard(&rt);
@@ -94,40 +75,16 @@ fn a_step_that_stops_is_left_where_the_list_says_so(rt: HostRuntime) {
         after(5, sets(0, 1, 1_050_000, MUST)),
     ];
     let down = [off(0, 0, MUST), after(10, off(1, 0, MUST)), off(0, 1, MUST)];
-    let dead = Part {
-        is_dead: true,
-        ..PART
-    };
-    let deaf = Part {
-        is_deaf: true,
-        ..PART
-    };
+    let dead = with! { Part, PART; is_dead: true };
+    let deaf = with! { Part, PART; is_deaf: true };
     let on = (0x80, 0x1000);
     let stays_on = StepEnd::Course(CourseEnd::Differs(Reg::Operation, 0x80));
+    #[rattlefmt::skip]
     let rows: [ListRow; 2] = [
-        (
-            "up, and the second rail stays off",
-            Rules { leaves: true, ..UP },
-            [PART, dead],
-            up,
-            End::Left(1),
-            2,
-            20,
-            [(0x80, 0x1333), (0x80, 0x10CD), (0x80, 0x119A), on],
-        ),
-        (
-            "down, and the first output stays on",
-            Rules {
-                leaves: false,
-                ..DOWN
-            },
-            [deaf, PART],
-            down,
-            End::Stopped(stays_on),
-            0,
-            0,
-            [on, on, on, on],
-        ),
+        ("up, and the second rail stays off", Rules { leaves: true, ..UP }, [PART, dead], up,
+            End::Left(1), 2, 20, [(0x80, 0x1333), (0x80, 0x10CD), (0x80, 0x119A), on]),
+        ("down, and the first output stays on", Rules { leaves: false, ..DOWN }, [deaf, PART], down,
+            End::Stopped(stays_on), 0, 0, [on, on, on, on]),
     ];
     check_lists(&rt, &rows);
 }
@@ -139,12 +96,8 @@ fn a_restart_ends_a_list_that_leaves_steps(rt: HostRuntime) {
     let mut sequence = Sequence::new(60, rules);
     sequence.list.stairs.restarted = true;
     let step = sets(0, 0, 1_200_000, MUST);
-    equal(
-        &rt,
-        &sequence.next(&guard(&rt), &None, &Some(step)),
-        &Act::Ended(End::Stopped(restarted)),
-        &"an answer showed a restart",
-    );
+    compare! { &rt, "an answer showed a restart";
+        sequence.next(&guard(&rt), &None, &Some(step)) => Act::Ended(End::Stopped(restarted)) }
 }
 
 #[test]
@@ -162,12 +115,8 @@ fn none_is_under_way_once_a_step_is_left(rt: HostRuntime) {
         list.stairs.under = Some(under);
         list.stairs.reading = !begun;
         list.skip();
-        equal(
-            &rt,
-            &(list.begun, list.stairs.under, list.stairs.reading),
-            &(left, None, false),
-            &begun,
-        );
+        compare! { &rt, begun;
+            (list.begun, list.stairs.under, list.stairs.reading) => (left, None, false) }
     }
 }
 
@@ -191,89 +140,27 @@ fn faults_are_new_against_what_an_earlier_list_heard(rt: HostRuntime) {
         fault: 1,
         word: 0,
     };
+    #[rattlefmt::skip]
     let rows: [BeforeRow; 7] = [
-        (
-            "no earlier list",
-            Heard::NOTHING,
-            0x0020,
-            1_200_000,
-            End::Reached,
-            24,
-        ),
-        (
-            "the fault stood",
-            good(0x0020),
-            0x0020,
-            1_200_000,
-            End::Reached,
-            23,
-        ),
-        (
-            "it came with the earlier list",
-            good(0x0000),
-            0x0020,
-            1_200_000,
-            is_new,
-            28,
-        ),
-        (
-            "it stood, and nothing is ordered",
-            good(0x0020),
-            0x0020,
-            1_000_000,
-            End::Reached,
-            8,
-        ),
-        (
-            "it came, and nothing is ordered",
-            good(0x0000),
-            0x0020,
-            1_000_000,
-            is_new,
-            13,
-        ),
-        (
-            "no answer came",
-            silent,
-            0x0000,
-            1_200_000,
-            End::Reached,
-            24,
-        ),
-        (
-            "no answer came, and a fault is there",
-            silent,
-            0x0020,
-            1_200_000,
-            is_new,
-            29,
-        ),
+        ("no earlier list", Heard::NOTHING, 0x0020, 1_200_000, End::Reached, 24),
+        ("the fault stood", good(0x0020), 0x0020, 1_200_000, End::Reached, 23),
+        ("it came with the earlier list", good(0x0000), 0x0020, 1_200_000, is_new, 28),
+        ("it stood, and nothing is ordered", good(0x0020), 0x0020, 1_000_000, End::Reached, 8),
+        ("it came, and nothing is ordered", good(0x0000), 0x0020, 1_000_000, is_new, 13),
+        ("no answer came", silent, 0x0000, 1_200_000, End::Reached, 24),
+        ("no answer came, and a fault is there", silent, 0x0020, 1_200_000, is_new, 29),
     ];
     for (name, before, status, microvolts, end, frames) in &rows {
-        let part = Part {
-            status: Some(*status),
-            ..PART
-        };
-        let step = Step {
-            before: *before,
-            ..sets(0, 0, *microvolts, MUST)
-        };
+        let part = with! { Part, PART; status: Some(*status) };
+        let step = with! { Step, sets(0, 0, *microvolts, MUST); before: *before };
         let (run, parts) = over(&rt, UP, [part, PART], &[step]);
-        equal(
-            &rt,
-            &(run.end, parts[0].frames),
-            &(Some(*end), *frames),
-            name,
-        );
+        compare! { &rt, name; (run.end, parts[0].frames) => (Some(*end), *frames) }
     }
 }
 
 #[test]
 fn a_step_from_another_start_looks_anew(rt: HostRuntime) {
-    let part = Part {
-        status: Some(0x0020),
-        ..PART
-    };
+    let part = with! { Part, PART; status: Some(0x0020) };
     let first = sets(0, 0, 1_200_000, MUST);
     let rows = [
         ("it says the same", Heard::NOTHING, End::Reached),
@@ -284,10 +171,7 @@ fn a_step_from_another_start_looks_anew(rt: HostRuntime) {
         ),
     ];
     for (name, before, end) in &rows {
-        let second = Step {
-            before: *before,
-            ..sets(0, 0, 1_100_000, MUST)
-        };
+        let second = with! { Step, sets(0, 0, 1_100_000, MUST); before: *before };
         let (run, _) = over(&rt, UP, [part, PART], &[first, second]);
         equal(&rt, &run.end, &Some(*end), name);
     }
@@ -298,19 +182,11 @@ fn requests_beside_the_jobs_read_the_output_that_is_looked_at(rt: HostRuntime) {
     let guard = guard(&rt);
     let mut sequence = Sequence::new(60, UP);
     sequence.look.delivery.output = 1;
+    #[rattlefmt::skip]
     let rows = [
-        (
-            Act::Ask(Question::Before),
-            Some([0xB0, 0x06, 0x02, 0x01, 0x79]),
-        ),
-        (
-            Act::Ask(Question::OvFaultLimit),
-            Some([0xB0, 0x06, 0x02, 0x01, 0x40]),
-        ),
-        (
-            Act::Ask(Question::ReadVout),
-            Some([0xB0, 0x06, 0x02, 0x01, 0x8B]),
-        ),
+        (Act::Ask(Question::Before), Some([0xB0, 0x06, 0x02, 0x01, 0x79])),
+        (Act::Ask(Question::OvFaultLimit), Some([0xB0, 0x06, 0x02, 0x01, 0x40])),
+        (Act::Ask(Question::ReadVout), Some([0xB0, 0x06, 0x02, 0x01, 0x8B])),
         (Act::Probe, Some([0xB0, 0x06, 0x02, 0x01, 0x01])),
         (Act::Again, None),
         (Act::Order(Job::Learn(0)), None),
@@ -326,47 +202,30 @@ fn what_no_frame_was_sent_for_changes_nothing(rt: HostRuntime) {
     let mut sequence = Sequence::new(60, DOWN);
     let step = off(0, 0, MUST);
     let before = sequence;
-    equal(
-        &rt,
-        &sequence.write_ended(&mut guard, true),
-        &Err(Untold::NothingSent),
-        &"no step",
-    );
-    equal(&rt, &sequence, &before, &"no step");
+    compare! { &rt, "no step";
+        sequence.write_ended(&mut guard, true) => Err(Untold::NothingSent);
+        sequence => before;
+    }
     for _ in 0..2usize {
         let _ = sequence.frame(&mut guard, None, Some(step));
     }
     let begun = sequence;
-    equal(
-        &rt,
-        &sequence.write_ended(&mut guard, true),
-        &Err(Untold::NothingSent),
-        &"no job",
-    );
-    equal(&rt, &sequence, &begun, &"no job");
+    compare! { &rt, "no job";
+        sequence.write_ended(&mut guard, true) => Err(Untold::NothingSent);
+        sequence => begun;
+    }
     let _ = sequence.frame(&mut guard, Some(step), None);
     let sent = sequence;
-    equal(
-        &rt,
-        &sequence.read_ended(&mut guard, &[]),
-        &Err(Untold::WrongKind),
-        &"a write is sent",
-    );
-    equal(&rt, &sequence, &sent, &"a write is sent");
-    equal(
-        &rt,
-        &sequence.write_ended(&mut guard, true),
-        &Ok(()),
-        &"the write ended",
-    );
+    compare! { &rt;
+        "a write is sent", sequence.read_ended(&mut guard, &[]) => Err(Untold::WrongKind);
+        "a write is sent", sequence => sent;
+        "the write ended", sequence.write_ended(&mut guard, true) => Ok(());
+    }
 }
 
 #[test]
 fn what_an_output_held_is_read_before_it_is_turned_off(rt: HostRuntime) {
-    let going = Rules {
-        ends_at_restart: false,
-        ..UP
-    };
+    let going = with! { Rules, UP; ends_at_restart: false };
     let restarted = End::Stopped(StepEnd::Restarted);
     // The rules, how the list ends, how many frames it has, and what OPERATION holds then: it was 80h as the host read it, and is A8h since.
     let rows: [(Rules, End, usize, u16); 2] = [
@@ -391,11 +250,9 @@ fn what_an_output_held_is_read_before_it_is_turned_off(rt: HostRuntime) {
             &[off(0, 0, NOT)],
         );
         let [part] = parts;
-        equal(
-            &rt,
-            &(run.end, part.frames.wrapping_sub(before), part.words[0][0]),
-            &(Some(*end), *frames, *held),
-            frames,
-        );
+        compare! { &rt, frames;
+            (run.end, part.frames.wrapping_sub(before), part.words[0][0]) =>
+                (Some(*end), *frames, *held);
+        }
     }
 }

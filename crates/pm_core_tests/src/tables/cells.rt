@@ -4,46 +4,22 @@ use crate::checks::agrees;
 use pm_table::{Cell, Code, Reg, cell_of};
 
 // The bytes of OPERATION that have a meaning: the bits that are fixed, and their values.
+#[rattlefmt::skip]
 static OPERATIONS: [(u16, u16); 7] = [
-    (0b1100_0000, 0b0000_0000),
-    (0b1100_0000, 0b0100_0000),
-    (0b1111_0000, 0b1000_0000),
-    (0b1111_1100, 0b1001_0100),
-    (0b1111_1100, 0b1001_1000),
-    (0b1111_1100, 0b1010_0100),
+    (0b1100_0000, 0b0000_0000), (0b1100_0000, 0b0100_0000), (0b1111_0000, 0b1000_0000),
+    (0b1111_1100, 0b1001_0100), (0b1111_1100, 0b1001_1000), (0b1111_1100, 0b1010_0100),
     (0b1111_1100, 0b1010_1000),
 ];
 
+#[rattlefmt::skip]
 static REGISTERS: [(u8, Reg); 6] = [
-    (0x01, Reg::Operation),
-    (0x21, Reg::VoutCommand),
-    (0x24, Reg::VoutMax),
-    (0x25, Reg::MarginHigh),
-    (0x26, Reg::MarginLow),
-    (0x2B, Reg::VoutMin),
+    (0x01, Reg::Operation), (0x21, Reg::VoutCommand), (0x24, Reg::VoutMax), (0x25, Reg::MarginHigh),
+    (0x26, Reg::MarginLow), (0x2B, Reg::VoutMin),
 ];
 
 // Whether a cell takes this word.
 fn takes(cell: Cell, word: u16) -> bool {
     cell.accepts(word)
-}
-
-#[test]
-fn operation_takes_the_bytes_that_have_a_meaning(rt: HostRuntime) {
-    let cell = Cell::Out(1, Reg::Operation);
-    for word in 0..=0x1FF {
-        let means = |row: &(u16, u16)| word & row.0 == row.1;
-        let wanted = word <= 0xFF && OPERATIONS.iter().any(means);
-        agrees(&rt, usize::from(word), &takes(cell, word), &wanted);
-    }
-}
-
-#[test]
-fn write_protect_takes_four_bytes(rt: HostRuntime) {
-    for word in 0..=0x1FF {
-        let wanted = [0x00, 0x20, 0x40, 0x80].contains(&word);
-        agrees(&rt, usize::from(word), &takes(Cell::Protect, word), &wanted);
-    }
 }
 
 static ABOVE_A_BYTE: [u16; 8] = [
@@ -61,15 +37,6 @@ static TAKERS: [(Cell, bool); 7] = [
     (Cell::Out(0, Reg::VoutMin), true),
 ];
 
-#[test]
-fn a_word_above_a_byte_is_a_voltage_alone(rt: HostRuntime) {
-    for word in &ABOVE_A_BYTE {
-        for (row, (cell, wanted)) in TAKERS.iter().enumerate() {
-            agrees(&rt, row, &takes(*cell, *word), wanted);
-        }
-    }
-}
-
 static VOLTAGES: [Cell; 5] = [
     Cell::Out(0, Reg::VoutCommand),
     Cell::Out(1, Reg::VoutMax),
@@ -79,7 +46,26 @@ static VOLTAGES: [Cell; 5] = [
 ];
 
 #[test]
-fn a_voltage_takes_every_word_of_a_byte(rt: HostRuntime) {
+fn each_cell_takes_its_words(rt: HostRuntime) {
+    // OPERATION takes the bytes that have a meaning.
+    let cell = Cell::Out(1, Reg::Operation);
+    for word in 0..=0x1FF {
+        let means = |row: &(u16, u16)| word & row.0 == row.1;
+        let wanted = word <= 0xFF && OPERATIONS.iter().any(means);
+        agrees(&rt, usize::from(word), &takes(cell, word), &wanted);
+    }
+    // WRITE_PROTECT takes four bytes.
+    for word in 0..=0x1FF {
+        let wanted = [0x00, 0x20, 0x40, 0x80].contains(&word);
+        agrees(&rt, usize::from(word), &takes(Cell::Protect, word), &wanted);
+    }
+    // Only a voltage takes a word above a byte.
+    for word in &ABOVE_A_BYTE {
+        for (row, (cell, wanted)) in TAKERS.iter().enumerate() {
+            agrees(&rt, row, &takes(*cell, *word), wanted);
+        }
+    }
+    // A voltage takes every word of a byte.
     for word in 0..=0x1FF {
         for cell in &VOLTAGES {
             agrees(&rt, usize::from(word), &takes(*cell, word), &true);
@@ -101,6 +87,11 @@ fn cell_at(code: u8, output: u8) -> Option<Cell> {
     cell_of(Code(code), output)
 }
 
+// The number of a cell's code.
+fn code_of(cell: Cell) -> u8 {
+    cell.code().0
+}
+
 #[test]
 fn seven_codes_mean_a_cell_and_no_other_does(rt: HostRuntime) {
     for code in 0..=u8::MAX {
@@ -108,15 +99,7 @@ fn seven_codes_mean_a_cell_and_no_other_does(rt: HostRuntime) {
         let last = row_of(code, 255);
         agrees(&rt, usize::from(code), &cell_at(code, 255), &last);
     }
-}
-
-// The number of a cell's code.
-fn code_of(cell: Cell) -> u8 {
-    cell.code().0
-}
-
-#[test]
-fn the_code_of_a_cell_is_the_one_that_leads_to_it(rt: HostRuntime) {
+    // The code of a cell is the one that leads to it.
     agrees(&rt, 0, &code_of(Cell::Protect), &0x10);
     for (row, (code, register)) in REGISTERS.iter().enumerate() {
         agrees(&rt, row, &code_of(Cell::Out(0, *register)), code);
@@ -126,23 +109,13 @@ fn the_code_of_a_cell_is_the_one_that_leads_to_it(rt: HostRuntime) {
 
 // A cell of each kind of place: the first, the last of an output, the first of the next, the
 // last of the last output, and the device's own.
+#[rattlefmt::skip]
 static PLACED: [(usize, Option<Cell>); 8] = [
-    (0, Some(Cell::Out(0, Reg::Operation))),
-    (5, Some(Cell::Out(0, Reg::VoutMin))),
-    (6, Some(Cell::Out(1, Reg::Operation))),
-    (22, Some(Cell::Out(3, Reg::MarginLow))),
-    (47, Some(Cell::Out(7, Reg::VoutMin))),
-    (48, Some(Cell::Protect)),
-    (49, None),
+    (0, Some(Cell::Out(0, Reg::Operation))), (5, Some(Cell::Out(0, Reg::VoutMin))),
+    (6, Some(Cell::Out(1, Reg::Operation))), (22, Some(Cell::Out(3, Reg::MarginLow))),
+    (47, Some(Cell::Out(7, Reg::VoutMin))), (48, Some(Cell::Protect)), (49, None),
     (usize::MAX, None),
 ];
-
-#[test]
-fn places_have_their_cells(rt: HostRuntime) {
-    for (place, wanted) in &PLACED {
-        agrees(&rt, *place, &Cell::at_place(*place), wanted);
-    }
-}
 
 // The place of the cell that has this place.
 fn place_again(place: usize) -> Option<usize> {
@@ -153,7 +126,10 @@ fn place_again(place: usize) -> Option<usize> {
 }
 
 #[test]
-fn each_place_leads_to_its_cell_and_back(rt: HostRuntime) {
+fn places_lead_to_their_cells_and_back(rt: HostRuntime) {
+    for (place, wanted) in &PLACED {
+        agrees(&rt, *place, &Cell::at_place(*place), wanted);
+    }
     for place in 0..Cell::PLACES {
         agrees(&rt, place, &place_again(place), &Some(place));
     }

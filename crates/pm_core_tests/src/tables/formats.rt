@@ -5,14 +5,11 @@ use crate::checks::agrees;
 use pm_num::{NumFault, NumFormat};
 use pm_table::{Coefficients, VoutMode, format_of};
 
+#[rattlefmt::skip]
 static ROWS: [((i16, i16, i8), Option<NumFault>); 8] = [
-    ((1, 0, 3), None),
-    ((-1, 5, 12), None),
-    ((-32768, 32767, -12), None),
-    ((0, 5, 3), Some(NumFault::ZeroSlope)),
-    ((0, 0, 13), Some(NumFault::ZeroSlope)),
-    ((1, 0, 13), Some(NumFault::ExponentRange)),
-    ((1, 0, -13), Some(NumFault::ExponentRange)),
+    ((1, 0, 3), None), ((-1, 5, 12), None), ((-32768, 32767, -12), None),
+    ((0, 5, 3), Some(NumFault::ZeroSlope)), ((0, 0, 13), Some(NumFault::ZeroSlope)),
+    ((1, 0, 13), Some(NumFault::ExponentRange)), ((1, 0, -13), Some(NumFault::ExponentRange)),
     ((-1, 0, 127), Some(NumFault::ExponentRange)),
 ];
 
@@ -21,15 +18,6 @@ fn fault_of(mode: VoutMode, m: i16, b: i16, r: i8) -> Option<NumFault>
     requires { IsMode mode }
 {
     format_of(mode, Coefficients { m, b, r }).err()
-}
-
-#[test]
-fn a_direct_mode_takes_the_coefficients_and_a_linear_one_ignores_them(rt: HostRuntime) {
-    for (row, ((m, b, r), fault)) in ROWS.iter().enumerate() {
-        agrees(&rt, row, &fault_of(VoutMode::Direct, *m, *b, *r), fault);
-        let linear = fault_of(VoutMode::Linear(-12), *m, *b, *r);
-        agrees(&rt, row, &linear, &None);
-    }
 }
 
 // The value of 34CDh in a mode, with millivolts for the direct one.
@@ -45,9 +33,15 @@ fn value_in(mode: VoutMode) -> Result<(i128, i128), NumFault>
     }
 }
 
-// 34CDh is 13517 * 2^-12, and 13517 millivolts.
 #[test]
-fn a_word_has_the_value_of_its_mode(rt: HostRuntime) {
+fn a_mode_has_its_format(rt: HostRuntime) {
+    // A mode of DIRECT takes the coefficients, and a linear one ignores them.
+    for (row, ((m, b, r), fault)) in ROWS.iter().enumerate() {
+        agrees(&rt, row, &fault_of(VoutMode::Direct, *m, *b, *r), fault);
+        let linear = fault_of(VoutMode::Linear(-12), *m, *b, *r);
+        agrees(&rt, row, &linear, &None);
+    }
+    // 34CDh is 13517 * 2^-12, and 13517 millivolts.
     let fine = value_in(VoutMode::Linear(-12));
     agrees(&rt, 0, &fine, &Ok((13_517, 4096)));
     let coarse = value_in(VoutMode::Linear(15));

@@ -12,14 +12,6 @@ static CODES: [(u8, &str); 5] = [
     (0xFA, "FAh"),
 ];
 
-#[test]
-fn a_code_is_told_by_its_name_or_its_number(rt: HostRuntime) -> Result<(), AllocError> {
-    for (row, (code, wanted)) in CODES.iter().enumerate() {
-        prints(&rt, row, &Code(*code), wanted)?;
-    }
-    Ok(())
-}
-
 static CELLS: [(Cell, &str); 4] = [
     (Cell::Out(0, Reg::Operation), "0 OPERATION"),
     (Cell::Out(7, Reg::MarginHigh), "7 VOUT_MARGIN_HIGH"),
@@ -28,7 +20,12 @@ static CELLS: [(Cell, &str); 4] = [
 ];
 
 #[test]
-fn a_cell_is_told_by_its_output_and_its_register(rt: HostRuntime) -> Result<(), AllocError> {
+fn codes_and_cells_are_told_by_name(rt: HostRuntime) -> Result<(), AllocError> {
+    // A code is told by its name or its number.
+    for (row, (code, wanted)) in CODES.iter().enumerate() {
+        prints(&rt, row, &Code(*code), wanted)?;
+    }
+    // A cell is told by its output and its register.
     for (row, (cell, wanted)) in CELLS.iter().enumerate() {
         prints(&rt, row, cell, wanted)?;
     }
@@ -73,17 +70,9 @@ fn a_device_has_its_cells_in_their_order(rt: HostRuntime) {
     for (row, (outputs, wanted)) in COUNTS.iter().enumerate() {
         agrees(&rt, row, &Cell::all(*outputs).count(), wanted);
     }
-    agrees(&rt, 4, &Cell::all(1).last(), &Some(Cell::Protect));
-    agrees(
-        &rt,
-        5,
-        &Cell::all(2).nth(6),
-        &Some(Cell::Out(1, Reg::Operation)),
-    );
-    agrees(
-        &rt,
-        6,
-        &Cell::all(2).nth(11),
-        &Some(Cell::Out(1, Reg::VoutMin)),
-    );
+    compare! { &rt;
+        4, Cell::all(1).last() => Some(Cell::Protect);
+        5, Cell::all(2).nth(6) => Some(Cell::Out(1, Reg::Operation));
+        6, Cell::all(2).nth(11) => Some(Cell::Out(1, Reg::VoutMin));
+    }
 }

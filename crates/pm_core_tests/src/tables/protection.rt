@@ -5,16 +5,11 @@ use pm_table::{Code, is_allowed};
 use std::process::Abort;
 
 // The codes that each value allows beside CLEAR_FAULTS.
+#[rattlefmt::skip]
 static PROTECTED: [(u16, &[u8]); 5] = [
-    (0x80, &[0x10]),
-    (0x40, &[0x10, 0x01, 0x00]),
+    (0x80, &[0x10]), (0x40, &[0x10, 0x01, 0x00]),
     (0x20, &[0x10, 0x01, 0x00, 0x21]),
-    (
-        0x00,
-        &[
-            0x00, 0x01, 0x05, 0x10, 0x15, 0x16, 0x21, 0x24, 0x25, 0x26, 0x2B, 0x7A, 0x7E,
-        ],
-    ),
+    (0x00, &[0x00, 0x01, 0x05, 0x10, 0x15, 0x16, 0x21, 0x24, 0x25, 0x26, 0x2B, 0x7A, 0x7E]),
     (0x60, &[]),
 ];
 
@@ -38,10 +33,7 @@ fn each_value_allows_its_codes_and_no_other(rt: HostRuntime) {
     for (protect, allowed) in &PROTECTED {
         allows_only(&rt, *protect, allowed);
     }
-}
-
-#[test]
-fn a_word_above_a_byte_allows_clear_faults_alone(rt: HostRuntime) {
+    // A word above a byte allows only CLEAR_FAULTS.
     for protect in &ABOVE_A_BYTE {
         allows_only(&rt, *protect, &[]);
     }

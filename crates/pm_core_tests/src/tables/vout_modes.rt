@@ -30,35 +30,25 @@ fn read(byte: u8) -> Result<VoutMode, TableFault> {
     VoutMode::read(byte)
 }
 
+#[rattlefmt::skip]
+static ENDS: [(u8, Result<VoutMode, TableFault>); 17] = [
+    (0x00, Ok(VoutMode::Linear(0))), (0x0F, Ok(VoutMode::Linear(15))),
+    (0x10, Ok(VoutMode::Linear(-16))), (0x14, Ok(VoutMode::Linear(-12))),
+    (0x1F, Ok(VoutMode::Linear(-1))), (0x20, Err(TableFault::VidMode)),
+    (0x3F, Err(TableFault::VidMode)), (0x40, Ok(VoutMode::Direct)),
+    (0x41, Err(TableFault::BadParameter)), (0x5F, Err(TableFault::BadParameter)),
+    (0x60, Err(TableFault::HalfMode)), (0x7F, Err(TableFault::HalfMode)),
+    (0x80, Err(TableFault::RelativeMode)), (0xA0, Err(TableFault::RelativeMode)),
+    (0xC0, Err(TableFault::RelativeMode)), (0xE0, Err(TableFault::RelativeMode)),
+    (0xFF, Err(TableFault::RelativeMode)),
+];
+
 #[test]
 fn every_byte_reads_as_its_bits_say(rt: HostRuntime) {
     for byte in 0..=u8::MAX {
         agrees(&rt, usize::from(byte), &read(byte), &slow_mode(byte));
     }
-}
-
-static ENDS: [(u8, Result<VoutMode, TableFault>); 17] = [
-    (0x00, Ok(VoutMode::Linear(0))),
-    (0x0F, Ok(VoutMode::Linear(15))),
-    (0x10, Ok(VoutMode::Linear(-16))),
-    (0x14, Ok(VoutMode::Linear(-12))),
-    (0x1F, Ok(VoutMode::Linear(-1))),
-    (0x20, Err(TableFault::VidMode)),
-    (0x3F, Err(TableFault::VidMode)),
-    (0x40, Ok(VoutMode::Direct)),
-    (0x41, Err(TableFault::BadParameter)),
-    (0x5F, Err(TableFault::BadParameter)),
-    (0x60, Err(TableFault::HalfMode)),
-    (0x7F, Err(TableFault::HalfMode)),
-    (0x80, Err(TableFault::RelativeMode)),
-    (0xA0, Err(TableFault::RelativeMode)),
-    (0xC0, Err(TableFault::RelativeMode)),
-    (0xE0, Err(TableFault::RelativeMode)),
-    (0xFF, Err(TableFault::RelativeMode)),
-];
-
-#[test]
-fn the_ends_of_each_range_read_as_the_standard_says(rt: HostRuntime) {
+    // The ends of each range read as the standard says.
     for (row, (byte, wanted)) in ENDS.iter().enumerate() {
         agrees(&rt, row, &read(*byte), wanted);
     }

@@ -13,17 +13,17 @@ use Rattle.std.proofs.lemmas.List.{take_all, length-take, length-take-le, take-a
 use Rattle.std.proofs.Math.Bool.{or-true, or-false, and-true}
 use Rattle.pm_lines.specs.Lines.{has_bytes, is_line_feed, is_skipped, is_space, without_return}
 use Rattle.pm_trace.specs.Marks.{before}
-use Rattle.pm_trace.specs.OpenLines.{IsAtLineFeed, Passes, line_of, line_takes, open_read, plain_line}
+use Rattle.pm_trace.specs.OpenLines.{IsAtLineFeed, Passes, open_line_of, line_takes, open_read, plain_line}
 use Rattle.pm_trace.specs.declared.decoder.open_line.OpenLine.{OpenLine}
 use Rattle.pm_trace.specs.Parts.{part_of, part_takes}
 use Rattle.pm_trace.specs.Trace.{line_read}
-use Rattle.pm_trace.specs.Lemmas.OpenLines.{has_last, line_of-snoc, turned, without_return-snoc}
+use Rattle.pm_trace.specs.Lemmas.OpenLines.{has_last, line_of-snoc, eqb_is_symmetric, without_return-snoc}
 use Rattle.pm_trace.specs.Lemmas.PlainLines.{part_of-snoc}
 use Rattle.pm_trace.specs.Lemmas.Said.{open_reads, skipped_kind}
 use Rattle.pm_decode.specs.Options.{notes_comments}
-use Rattle.pm_decode.specs.Readings.{Told, Noted, behind_word, first_word, from_first, is_comment, is_noted, is_passed, past_spaces, reading_of}
-use Rattle.pm_decode.specs.Readings.{note_in, note_of, said_of, time_in, timed}
-use Rattle.pm_decode.specs.TimedLines.{PassesTimed, begun_with, head_note, head_takes, is_told, passes_timed, plain_takes, skips_timed, timed_of, timed_read}
+use Rattle.pm_decode.specs.Readings.{Told, Noted, behind_word, first_word, from_first, is_comment, is_noted, is_passed, past_spaces, line_reading_of}
+use Rattle.pm_decode.specs.Readings.{note_in, note_of, said_of_line, time_in, timed}
+use Rattle.pm_decode.specs.TimedLines.{PassesTimed, line_begun_with, head_note, head_takes, is_comment_full, passes_timed, plain_line_takes, skips_timed, timed_of, timed_read}
 use Rattle.pm_decode.specs.TimedLines.{timed_said, timed_takes, word_ended}
 use Rattle.pm_decode.specs.declared.options.TellOptions.{TellOptions}
 use Rattle.pm_decode.specs.declared.timed_line.TimedLine.{TimedLine}
@@ -149,7 +149,7 @@ behind_word-snoc xs b = ap (from_first is_space) (from_first-snoc (λ x. not (is
 -- the first byte decides whether the line has a mark
 mark-snoc : (xs : List ℕ) (b : ℕ) → starts_with nat_eq (xs ++ b ∷ []) (codes "#")
     ≡ cond (has_bytes xs) (starts_with nat_eq xs (codes "#")) (eqb b 35)
-mark-snoc [] b = and-true (eqb 35 b) ∙ turned 35 b
+mark-snoc [] b = and-true (eqb 35 b) ∙ eqb_is_symmetric 35 b
 mark-snoc (x ∷ xs) b = refl
 
 -- the first bytes take a byte if there is room for it
@@ -187,12 +187,12 @@ has_kept [] = refl
 has_kept (x ∷ xs) = refl
 
 -- the word is over once one more byte came: it was over, or it has a byte and the new one is a space
-abbrev is_over : Bool → Bool → Bool → Bool
-is_over over space some = over || (space && some)
+abbrev is_word_over : Bool → Bool → Bool → Bool
+is_word_over over space some = over || (space && some)
 
 -- what is kept of the word takes a byte that is no space while the word isn't over, and no other byte
 word_took : (over space some : Bool) (word : List ℕ) (b : ℕ) → part_of (word_takes over space word b)
-    ≡ cond (is_over over space some || space) (part_of word) (part_takes (part_of word) b)
+    ≡ cond (is_word_over over space some || space) (part_of word) (part_takes (part_of word) b)
 word_took true space some word b = refl
 word_took false true some word b = by some
   where
@@ -203,16 +203,17 @@ word_took false false some word b = part_of-snoc word b
 
 -- what is kept of the packet takes a byte exactly if the word is over once that byte came
 packet_took : (over space some : Bool) (behind : List ℕ) (b : ℕ) → has_bytes behind ≡ over
-    → line_of (behind_takes over space some behind b) ≡ cond (is_over over space some) (line_takes (line_of behind) b) (line_of behind)
+    → open_line_of (behind_takes over space some behind b)
+    ≡ cond (is_word_over over space some) (line_takes (open_line_of behind) b) (open_line_of behind)
 packet_took true space some behind b is = line_of-snoc behind b
 packet_took false true true behind b is =
-    line_of-snoc [] b ∙ ap (λ l. line_takes (line_of l) b) (sym (none_there behind is))
-packet_took false true false behind b is = ap line_of (sym (none_there behind is))
-packet_took false false some behind b is = ap line_of (sym (none_there behind is))
+    line_of-snoc [] b ∙ ap (λ l. line_takes (open_line_of l) b) (sym (none_there behind is))
+packet_took false true false behind b is = ap open_line_of (sym (none_there behind is))
+packet_took false false some behind b is = ap open_line_of (sym (none_there behind is))
 
 -- something follows the word, once one more byte came, exactly if the word is over then
 over_took : (over space some : Bool) (behind : List ℕ) (b : ℕ) → has_bytes behind ≡ over
-    → has_bytes (behind_takes over space some behind b) ≡ is_over over space some
+    → has_bytes (behind_takes over space some behind b) ≡ is_word_over over space some
 over_took true space some behind b is = some_there behind b
 over_took false true true behind b is = refl
 over_took false true false behind b is = refl
@@ -227,11 +228,11 @@ whole_of times line = record {
   is_over = cond times (has_bytes (behind_word line)) true;
   head = cond (is_comment line) (take 64 line) [];
   word = part_of (cond times (first_word line) []);
-  packet = line_of (cond times (behind_word line) line);
+  packet = open_line_of (cond times (behind_word line) line);
 }
 
 -- one byte more at its end
-whole_of-snoc : (times : Bool) (xs : List ℕ) (b : ℕ) → whole_of times (xs ++ b ∷ []) ≡ plain_takes (whole_of times xs) b
+whole_of-snoc : (times : Bool) (xs : List ℕ) (b : ℕ) → whole_of times (xs ++ b ∷ []) ≡ plain_line_takes (whole_of times xs) b
 whole_of-snoc false xs b = λ i. record {
   times = false;
   has_mark = mark-snoc xs b i;
@@ -254,40 +255,41 @@ whole_of-snoc true xs b = λ i. record {
     over : Bool
     over = has_bytes (behind_word xs)
 
-    tests : is_over over (is_space b) (has_bytes (first_word xs)) ≡ is_over over (is_space b) (has_bytes (part_of (first_word xs)).bytes)
-    tests = ap (λ c. is_over over (is_space b) c) (sym (has_kept (first_word xs)))
+    tests : is_word_over over (is_space b) (has_bytes (first_word xs))
+        ≡ is_word_over over (is_space b) (has_bytes (part_of (first_word xs)).bytes)
+    tests = ap (λ c. is_word_over over (is_space b) c) (sym (has_kept (first_word xs)))
 
-    is_ended : has_bytes (behind_word (xs ++ b ∷ [])) ≡ is_over over (is_space b) (has_bytes (part_of (first_word xs)).bytes)
+    is_ended : has_bytes (behind_word (xs ++ b ∷ [])) ≡ is_word_over over (is_space b) (has_bytes (part_of (first_word xs)).bytes)
     is_ended = ap has_bytes (behind_word-snoc xs b)
         ∙ over_took over (is_space b) (has_bytes (first_word xs)) (behind_word xs) b refl ∙ tests
 
     word : part_of (first_word (xs ++ b ∷ []))
-        ≡ cond (is_over over (is_space b) (has_bytes (part_of (first_word xs)).bytes) || is_space b)
+        ≡ cond (is_word_over over (is_space b) (has_bytes (part_of (first_word xs)).bytes) || is_space b)
         (part_of (first_word xs)) (part_takes (part_of (first_word xs)) b)
     word = ap part_of (first_word-snoc xs b) ∙ word_took over (is_space b) (has_bytes (first_word xs)) (first_word xs) b
         ∙ ap (λ c. cond (c || is_space b) (part_of (first_word xs)) (part_takes (part_of (first_word xs)) b)) tests
 
-    packet : line_of (behind_word (xs ++ b ∷ []))
-        ≡ cond (is_over over (is_space b) (has_bytes (part_of (first_word xs)).bytes))
-        (line_takes (line_of (behind_word xs)) b) (line_of (behind_word xs))
-    packet = ap line_of (behind_word-snoc xs b)
+    packet : open_line_of (behind_word (xs ++ b ∷ []))
+        ≡ cond (is_word_over over (is_space b) (has_bytes (part_of (first_word xs)).bytes))
+        (line_takes (open_line_of (behind_word xs)) b) (open_line_of (behind_word xs))
+    packet = ap open_line_of (behind_word-snoc xs b)
         ∙ packet_took over (is_space b) (has_bytes (first_word xs)) (behind_word xs) b refl
-        ∙ ap (λ c. cond c (line_takes (line_of (behind_word xs)) b) (line_of (behind_word xs))) tests
+        ∙ ap (λ c. cond c (line_takes (open_line_of (behind_word xs)) b) (open_line_of (behind_word xs))) tests
 
 -- a line by whether it is a comment
-abbrev timed_by : Bool → Bool → List ℕ → TimedLine
-timed_by mark times line = record {
+abbrev timed_line_by : Bool → Bool → List ℕ → TimedLine
+timed_line_by mark times line = record {
   times = times;
   has_mark = mark;
   is_begun = has_bytes line;
   is_over = cond times (has_bytes (behind_word (cond mark (take 1 line) line))) true;
   head = cond mark (take 64 line) [];
   word = part_of (cond times (first_word (cond mark (take 1 line) line)) []);
-  packet = line_of (cond times (behind_word (cond mark (take 1 line) line)) (cond mark (take 1 line) line));
+  packet = open_line_of (cond times (behind_word (cond mark (take 1 line) line)) (cond mark (take 1 line) line));
 }
 
 -- each byte of a line that is no comment may be a packet's
-plain_of : (times : Bool) (line : List ℕ) → is_comment line ≡ false → whole_of times line ≡ timed_by false times line
+plain_of : (times : Bool) (line : List ℕ) → is_comment line ≡ false → whole_of times line ≡ timed_line_by false times line
 plain_of times line is = λ i. record {
   times = times;
   has_mark = is i;
@@ -295,11 +297,11 @@ plain_of times line is = λ i. record {
   is_over = cond times (has_bytes (behind_word line)) true;
   head = cond (is i) (take 64 line) [];
   word = part_of (cond times (first_word line) []);
-  packet = line_of (cond times (behind_word line) line);
+  packet = open_line_of (cond times (behind_word line) line);
 }
 
 -- a line of one byte, which may be a comment's
-single_of : (times : Bool) (b : ℕ) → whole_of times (b ∷ []) ≡ timed_by (is_comment (b ∷ [])) times (b ∷ [])
+single_of : (times : Bool) (b : ℕ) → whole_of times (b ∷ []) ≡ timed_line_by (is_comment (b ∷ [])) times (b ∷ [])
 single_of times b = by (is_comment (b ∷ []))
   where
     own : (c : Bool) → b ∷ [] ≡ cond c (take 1 (b ∷ [])) (b ∷ [])
@@ -313,8 +315,8 @@ single_of times b = by (is_comment (b ∷ []))
       is_over = cond times (has_bytes (behind_word (b ∷ []))) true;
       head = cond c (take 64 (b ∷ [])) [];
       word = part_of (cond times (first_word (b ∷ [])) []);
-      packet = line_of (cond times (behind_word (b ∷ [])) (b ∷ []));
-    } ≡ timed_by c times (b ∷ [])
+      packet = open_line_of (cond times (behind_word (b ∷ [])) (b ∷ []));
+    } ≡ timed_line_by c times (b ∷ [])
     by c = λ i. record {
       times = times;
       has_mark = c;
@@ -322,7 +324,7 @@ single_of times b = by (is_comment (b ∷ []))
       is_over = cond times (has_bytes (behind_word (own c i))) true;
       head = cond c (take 64 (b ∷ [])) [];
       word = part_of (cond times (first_word (own c i)) []);
-      packet = line_of (cond times (behind_word (own c i)) (own c i));
+      packet = open_line_of (cond times (behind_word (own c i)) (own c i));
     }
 
 -- the law of the line: one byte more at its end is one step
@@ -334,8 +336,8 @@ timed_of-snoc times (x ∷ xs) b = by (is_comment (x ∷ xs)) refl
     line : List ℕ
     line = x ∷ xs
 
-    by : (c : Bool) → is_comment line ≡ c → timed_by c times (line ++ b ∷ [])
-        ≡ cond c (record (timed_by c times line) { head = head_takes (timed_by c times line).head b }) (plain_takes (timed_by c times line) b)
+    by : (c : Bool) → is_comment line ≡ c → timed_line_by c times (line ++ b ∷ [])
+        ≡ cond c (record (timed_line_by c times line) { head = head_takes (timed_line_by c times line).head b }) (plain_line_takes (timed_line_by c times line) b)
     by true is = λ i. record {
       times = times;
       has_mark = true;
@@ -343,16 +345,17 @@ timed_of-snoc times (x ∷ xs) b = by (is_comment (x ∷ xs)) refl
       is_over = cond times (has_bytes (behind_word (take 1 line))) true;
       head = take-snoc line b i;
       word = part_of (cond times (first_word (take 1 line)) []);
-      packet = line_of (cond times (behind_word (take 1 line)) (take 1 line));
+      packet = open_line_of (cond times (behind_word (take 1 line)) (take 1 line));
     }
-    by false is = sym (plain_of times (line ++ b ∷ []) is) ∙ whole_of-snoc times line b ∙ ap (λ l. plain_takes l b) (plain_of times line is)
+    by false is = sym (plain_of times (line ++ b ∷ []) is) ∙ whole_of-snoc times line b
+        ∙ ap (λ l. plain_line_takes l b) (plain_of times line is)
 
 -- ---- bytes of a piece
 
 -- a line that is no comment yet takes a byte so
-takes_plain : (line : TimedLine) (b : ℕ) → (line.is_begun && line.has_mark) ≡ false → timed_takes line b ≡ plain_takes line b
+takes_plain : (line : TimedLine) (b : ℕ) → (line.is_begun && line.has_mark) ≡ false → timed_takes line b ≡ plain_line_takes line b
 unfolding timed_takes
-takes_plain line b is = ap (λ c. cond c (record line { head = head_takes line.head b }) (plain_takes line b)) is
+takes_plain line b is = ap (λ c. cond c (record line { head = head_takes line.head b }) (plain_line_takes line b)) is
 
 -- a line that is no comment with its first byte isn't one before it
 unmarked : (begun mark first : Bool) → cond begun mark first ≡ false → (begun && mark) ≡ false
@@ -365,7 +368,7 @@ packet_fold : (line : TimedLine) (front : List ℕ) → line.is_begun ≡ true �
 packet_fold line [] begun over plain = refl
 packet_fold line (b ∷ front) begun over plain =
     ap (λ l. fold timed_takes l front) (takes_plain line b (ap (λ c. c && line.has_mark) begun ∙ plain))
-    ∙ packet_fold (plain_takes line b) front refl (ap (λ c. c || (is_space b && has_bytes line.word.bytes)) over)
+    ∙ packet_fold (plain_line_takes line b) front refl (ap (λ c. c || (is_space b && has_bytes line.word.bytes)) over)
     (ap (λ c. cond c line.has_mark (eqb b 35)) begun ∙ plain)
     ∙ λ i. record {
       times = line.times;
@@ -380,10 +383,10 @@ packet_fold line (b ∷ front) begun over plain =
 
 -- a line that is no comment, and all of whose bytes are the packet's own, of which this is one
 packet_begun : (line : TimedLine) (x : ℕ) (front : List ℕ) → line.is_over ≡ true → cond line.is_begun line.has_mark (eqb x 35) ≡ false
-    → fold timed_takes line (x ∷ front) ≡ record (begun_with line x) { packet = fold line_takes line.packet (x ∷ front) }
+    → fold timed_takes line (x ∷ front) ≡ record (line_begun_with line x) { packet = fold line_takes line.packet (x ∷ front) }
 packet_begun line x front over plain =
     ap (λ l. fold timed_takes l front) (takes_plain line x (unmarked line.is_begun line.has_mark (eqb x 35) plain))
-    ∙ packet_fold (plain_takes line x) front refl (ap (λ c. c || (is_space x && has_bytes line.word.bytes)) over) plain
+    ∙ packet_fold (plain_line_takes line x) front refl (ap (λ c. c || (is_space x && has_bytes line.word.bytes)) over) plain
     ∙ λ i. record {
       times = line.times;
       has_mark = cond line.is_begun line.has_mark (eqb x 35);
@@ -396,13 +399,13 @@ packet_begun line x front over plain =
     }
 
 -- a comment whose first bytes are kept stays as it is
-told_takes : (line : TimedLine) (b : ℕ) → is_told line ≡ true → line ≡ timed_takes line b
+told_takes : (line : TimedLine) (b : ℕ) → is_comment_full line ≡ true → line ≡ timed_takes line b
 unfolding timed_takes
 told_takes line b told = by line.is_begun line.has_mark (nat_lt (length line.head) 64) refl refl refl told
   where
     by : (begun mark more : Bool) → line.is_begun ≡ begun → line.has_mark ≡ mark → nat_lt (length line.head) 64 ≡ more
         → (begun && (mark && not more)) ≡ true
-        → line ≡ cond (line.is_begun && line.has_mark) (record line { head = head_takes line.head b }) (plain_takes line b)
+        → line ≡ cond (line.is_begun && line.has_mark) (record line { head = head_takes line.head b }) (plain_line_takes line b)
     by true true false begun mark full is = rw (begun, mark, full) refl
     by true true true begun mark full is = absurd (true≢false (sym is))
     by true false more begun mark full is = absurd (true≢false (sym is))
@@ -412,7 +415,7 @@ told_takes line b told = by line.is_begun line.has_mark (nat_lt (length line.hea
 pub passes_packet : (old : TimedLine) (bytes rest : List ℕ) (packet : OpenLine) → old.is_over ≡ true → 1 ≤ length bytes
     → (get_or bytes 0 0 ≡ 10 → ⊥) → cond old.is_begun old.has_mark (eqb (get_or bytes 0 0) 35) ≡ false
     → Passes old.packet bytes rest packet → IsAtLineFeed rest
-    → PassesTimed old bytes rest (record (begun_with old (get_or bytes 0 0)) { packet = packet })
+    → PassesTimed old bytes rest (record (line_begun_with old (get_or bytes 0 0)) { packet = packet })
 passes_packet old bytes rest packet over some other unmarked passes stops =
     by passes.front bytes passes.split passes.plain passes.line some other unmarked
   where
@@ -422,7 +425,7 @@ passes_packet old bytes rest packet over some other unmarked passes stops =
 
     by : (front bytes : List ℕ) → bytes ≡ front ++ rest → list_any is_line_feed front ≡ false → packet ≡ fold line_takes old.packet front
         → 1 ≤ length bytes → (get_or bytes 0 0 ≡ 10 → ⊥) → cond old.is_begun old.has_mark (eqb (get_or bytes 0 0) 35) ≡ false
-        → PassesTimed old bytes rest (record (begun_with old (get_or bytes 0 0)) { packet = packet })
+        → PassesTimed old bytes rest (record (line_begun_with old (get_or bytes 0 0)) { packet = packet })
     by [] bytes split plain line some other unmarked =
         let at : IsAtLineFeed bytes = subst (λ l. IsAtLineFeed l) (sym split) stops in
         absurd (none bytes at some other)
@@ -432,8 +435,8 @@ passes_packet old bytes rest packet over some other unmarked passes stops =
           front = x ∷ front;
           split = split;
           plain = plain;
-          line = ap (λ p. record (begun_with old (get_or bytes 0 0)) { packet = p }) line
-              ∙ ap (λ n. record (begun_with old n) { packet = fold line_takes old.packet (x ∷ front) }) (sym first)
+          line = ap (λ p. record (line_begun_with old (get_or bytes 0 0)) { packet = p }) line
+              ∙ ap (λ n. record (line_begun_with old n) { packet = fold line_takes old.packet (x ∷ front) }) (sym first)
               ∙ sym (packet_begun old x front over (ap (λ n. cond old.is_begun old.has_mark (eqb n 35)) first ∙ unmarked));
         }
 
@@ -457,7 +460,7 @@ passes_one {old = old} {mid = mid} {bytes = bytes} (x ∷ xs) new passes some ot
     }
 
 -- one more of a comment whose first bytes are kept
-pub passes_told : (line : TimedLine) (bytes rest : List ℕ) → is_told line ≡ true → PassesTimed line bytes rest line
+pub passes_told : (line : TimedLine) (bytes rest : List ℕ) → is_comment_full line ≡ true → PassesTimed line bytes rest line
     → 1 ≤ length rest → (get_or rest 0 0 ≡ 10 → ⊥) → PassesTimed line bytes (take (length rest - 1) (drop 1 rest)) line
 passes_told line bytes rest told passes some other =
     passes_one rest line passes some other (told_takes line (get_or rest 0 0) told)
@@ -553,8 +556,8 @@ word_ends (x ∷ xs) =
     subst P (sym last.is) (word_ends-snoc last.front last.last)
 
 -- a line is read without the carriage return that is held back
-open_line_reads : (line : List ℕ) → open_read (line_of line) ≡ line_read (without_return line)
-unfolding line_of open_read
+open_line_reads : (line : List ℕ) → open_read (open_line_of line) ≡ line_read (without_return line)
+unfolding open_line_of open_read
 open_line_reads line = open_reads (without_return line)
 
 -- a word of more bytes than are kept is no time, and another one is kept whole
@@ -582,14 +585,14 @@ time_kept over word = by (nat_lt 300 (length word)) refl
         ap (λ l. time_in (cond over l (without_return l))) (take_all 300 word few)
 
 -- the law of a line's reading: what is kept of a line that is no comment reads as the line does
-timed_reads : (times : Bool) (line : List ℕ) → timed_read (timed_by false times line) ≡ reading_of times (without_return line)
+timed_reads : (times : Bool) (line : List ℕ) → timed_read (timed_line_by false times line) ≡ line_reading_of times (without_return line)
 timed_reads false line = λ i. record { time = None; parts = open_line_reads line i }
 timed_reads true line =
     let ends = word_ends line in
-    let time : cond (part_of (first_word line)).is_long None (time_in (word_ended (timed_by false true line)))
+    let time : cond (part_of (first_word line)).is_long None (time_in (word_ended (timed_line_by false true line)))
     ≡ time_in (first_word (without_return line)) =
     time_kept (has_bytes (behind_word line)) (first_word line) ∙ ap time_in (sym ends.word) in
-    let parts : open_read (line_of (behind_word line)) ≡ line_read (behind_word (without_return line)) =
+    let parts : open_read (open_line_of (behind_word line)) ≡ line_read (behind_word (without_return line)) =
     open_line_reads (behind_word line) ∙ ap line_read (sym ends.behind) in
     λ i. timed (time i) (parts i)
 
@@ -656,11 +659,11 @@ or_turned false b = sym (or-false b)
 
 -- a line that is no comment is skipped by what is kept of it
 plain_skips : (times : Bool) (line : List ℕ) → is_comment line ≡ false
-    → skips_timed (timed_by false times line) ≡ is_skipped (without_return line)
-unfolding line_of plain_line
+    → skips_timed (timed_line_by false times line) ≡ is_skipped (without_return line)
+unfolding open_line_of plain_line
 plain_skips false line plain = sym (skipped_kind (without_return line))
 plain_skips true line plain =
-    let word : has_bytes (word_ended (timed_by false true line)) ≡ has_bytes (first_word (without_return line)) =
+    let word : has_bytes (word_ended (timed_line_by false true line)) ≡ has_bytes (first_word (without_return line)) =
     word_there (has_bytes (behind_word line)) (first_word line)
     ∙ ap has_bytes (sym (word_ends line).word) in
     ap not word
@@ -673,7 +676,7 @@ pub timed_skips : (times : Bool) (line : List ℕ) → skips_timed (timed_of tim
 unfolding timed_of
 timed_skips times line = by (is_comment line) refl
   where
-    by : (c : Bool) → is_comment line ≡ c → skips_timed (timed_by c times line) ≡ is_skipped (without_return line)
+    by : (c : Bool) → is_comment line ≡ c → skips_timed (timed_line_by c times line) ≡ is_skipped (without_return line)
     by true is =
         sym (or-true (list_all is_space (without_return line)))
         ∙ ap (λ c. list_all is_space (without_return line) || c) (sym (mark_kept line ∙ is))
@@ -753,17 +756,17 @@ remark_kept line = ap note_in (
 
 -- a line of which something is said is by what is kept of it what it is
 pub timed_says : (options : TellOptions) (line : List ℕ) → is_passed (notes_comments options) (without_return line) ≡ false
-    → timed_said (notes_comments options) (timed_of options.times line) ≡ said_of options (without_return line)
+    → timed_said (notes_comments options) (timed_of options.times line) ≡ said_of_line options (without_return line)
 unfolding timed_of
 timed_says options line heard =
     by (notes_comments options) (is_comment line) refl (timed_passes options line ∙ heard)
     ∙ ap (λ c. cond (notes_comments options && c) (Noted (note_of (without_return line)))
-    (Told (reading_of options.times (without_return line)))) (sym (mark_kept line))
+    (Told (line_reading_of options.times (without_return line)))) (sym (mark_kept line))
   where
     by : (pages c : Bool) → is_comment line ≡ c
-        → (not (pages && c) && skips_timed (timed_by c options.times line)) ≡ false
-        → cond (pages && c) (Noted (head_note (cond c (take 64 line) []))) (Told (timed_read (timed_by c options.times line)))
-        ≡ cond (pages && c) (Noted (note_of (without_return line))) (Told (reading_of options.times (without_return line)))
+        → (not (pages && c) && skips_timed (timed_line_by c options.times line)) ≡ false
+        → cond (pages && c) (Noted (head_note (cond c (take 64 line) []))) (Told (timed_read (timed_line_by c options.times line)))
+        ≡ cond (pages && c) (Noted (note_of (without_return line))) (Told (line_reading_of options.times (without_return line)))
     by true true is heard = ap Noted (remark_kept line)
     by true false is heard = ap Told (timed_reads options.times line)
     by false true is heard = absurd (true≢false heard)

@@ -2,7 +2,7 @@
 
 ghost use Rattle.std.specs.Prelude.{◌≡◌, Some};
 ghost use Rattle.pm_device.specs.Image.{device_of};
-ghost use Rattle.pm_device.specs.Memory.{image_of};
+ghost use Rattle.pm_device.specs.Memory.{part_image_of};
 
 use crate::cml_latches::CmlLatches;
 use crate::config::config_fault;
@@ -58,7 +58,7 @@ impl Converter {
     /// Makes it the image of this converter, whatever it was.
     pub fn write(&self, image: &mut PartImage)
         ensures device { device_of image.new ≡ Some self.now }
-        ensures written { image.new ≡ image_of self.now }
+        ensures written { image.new ≡ part_image_of self.now }
     {
         sound_configurations_have_no_fault();
         *image = PartImage {

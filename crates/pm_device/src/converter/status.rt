@@ -11,7 +11,7 @@ impl Converter {
     /// STATUS_BYTE of an output that exists: the bits of [`StatusByte`].
     pub fn status_byte(&self, output: u8) -> u8
         requires { output < self.now.config.count }
-        ensures { result ≡ spec.status_byte self.now output }
+        ensures { result ≡ spec.status_byte_of self.now output }
     {
         StatusByte::new(self.output_status(output)).bits()
     }
@@ -19,7 +19,7 @@ impl Converter {
     /// STATUS_WORD of an output that exists: the bits of [`StatusWord`].
     pub fn status_word(&self, output: u8) -> u16
         requires { output < self.now.config.count }
-        ensures { result ≡ spec.status_word self.now output }
+        ensures { result ≡ spec.status_word_of self.now output }
     {
         StatusWord::new(self.output_status(output)).bits()
     }
@@ -27,14 +27,14 @@ impl Converter {
     /// STATUS_VOUT of an output that exists: the bits of [`StatusVout`].
     pub fn status_vout(&self, output: u8) -> u8
         requires { output < self.now.config.count }
-        ensures { result ≡ spec.status_vout self.now output }
+        ensures { result ≡ spec.status_vout_of self.now output }
     {
         StatusVout::new(self.is_latched(output)).bits()
     }
 
     /// STATUS_CML, the device's: the bits of `StatusCml`.
     pub fn status_cml(&self) -> u8
-        ensures { result ≡ spec.status_cml self.now }
+        ensures { result ≡ spec.status_cml_of self.now }
     {
         self.faults.status().bits()
     }
@@ -42,8 +42,8 @@ impl Converter {
     // What STATUS_BYTE and STATUS_WORD of an output are made of.
     fn output_status(&self, output: u8) -> OutputStatus
         requires { output < self.now.config.count }
-        ensures off { result.off ≡ not (spec.is_on self.now output) }
-        ensures cml { result.cml ≡ not (spec.status_cml self.now == 0) }
+        ensures off { result.off ≡ not (spec.is_output_on self.now output) }
+        ensures cml { result.cml ≡ not (spec.status_cml_of self.now == 0) }
         ensures vout { result.vout ≡ spec.cut_at self.now.cut output }
     {
         OutputStatus {

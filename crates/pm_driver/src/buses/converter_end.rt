@@ -3,8 +3,8 @@
 ghost use Rattle.std.specs.Prelude.{◌≡◌, ◌≤◌, [], length, take};
 ghost use Rattle.pm_device.specs.declared.converter.Ending.TheVariants.{Stop};
 ghost use Rattle.pm_device.specs.Effect as effect;
-ghost use Rattle.pm_device.specs.History.{next as device_next};
-ghost use Rattle.pm_driver.specs.Plan.{asked, delivered, delivered_some, disturbed, returned};
+ghost use Rattle.pm_device.specs.History.{device_next};
+ghost use Rattle.pm_driver.specs.Plan.{held_after_request, held_after_packet, delivered_some, disturbed, returned};
 ghost use Rattle.pm_driver.specs.Disturbed.{IsAskedPart, IsDisturbed, IsSentPart};
 
 use pm_device::{Converter, Ending};
@@ -26,7 +26,7 @@ pub(crate) fn disturb(device: &mut Converter, restarts: bool)
 /// The converter hears a packet as it arrives, if that is legal; otherwise the packet is lost.
 pub(crate) fn deliver(device: &mut Converter, packet: &[u8], arrival: &Arrival)
     ensures is { IsSentPart packet.now device.old device.new }
-    ensures after { device.new ≡ delivered packet.now device.old arrival.now }
+    ensures after { device.new ≡ held_after_packet packet.now device.old arrival.now }
 {
     let bytes = heard_bytes(packet, arrival);
     let ending = heard_ending(Ending::Stop, arrival);
@@ -69,7 +69,7 @@ pub(crate) fn ask(
     answer: &mut [u8],
 ) -> usize
     requires { 1 ≤ length answer.old }
-    ensures after { device.new ≡ asked request.now device.old arrival.now }
+    ensures after { device.new ≡ held_after_request request.now device.old arrival.now }
     ensures came { take result answer.new ≡ returned request.now (length answer.old) device.old arrival.now back.now }
     ensures fits { result ≤ length answer.new }
     ensures asked { IsAskedPart request.now (length answer.old) device.old (take result answer.new) device.new }

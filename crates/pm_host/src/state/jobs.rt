@@ -20,7 +20,7 @@ use pm_table::Cell;
 
 impl State {
     /// Begins a job if none is open, as `Host::begin`: the stage at which it stands then.
-    #[tactic(auto, unfolding(crate::specs::Summary::next))]
+    #[tactic(auto, unfolding(crate::specs::Summary::host_next))]
     pub fn begin(&mut self, stage: Option<Stage>, job: Job) -> Result<Stage, HostFault>
         requires sound { IsSound (held stage self.old) }
         ensures sound { IsSound (held (begun_at stage result) self.new) }
@@ -44,7 +44,7 @@ impl State {
     }
 
     // Begins an order of a word.
-    #[tactic(auto, unfolding(crate::specs::Summary::next))]
+    #[tactic(auto, unfolding(crate::specs::Summary::host_next))]
     fn begin_order(&mut self, cell: Cell, word: u16) -> Result<Stage, HostFault>
         requires sound { IsSound (held None self.old) }
         ensures sound { IsSound (held (result_ok result) self.new) }

@@ -8,7 +8,7 @@ ghost use Rattle.pm_num.specs.NearestWord.{nearest_word as spec_nearest_word};
 ghost use Rattle.pm_num.specs.Ratio.{micros};
 ghost use Rattle.pm_table.specs.Cell.{output_of};
 ghost use Rattle.pm_host.specs.Image.{held, format_held};
-ghost use Rattle.pm_host.specs.Refusals.{range_fault_in, outside_fault, voltage_fault};
+ghost use Rattle.pm_host.specs.Refusals.{range_fault_in, outside_format_fault, voltage_fault};
 ghost use Rattle.pm_host.specs.Sound.{IsSound};
 ghost use Rattle.pm_host.specs.Summary.{format_at};
 
@@ -70,7 +70,7 @@ pub fn nearest_word<F: NumFormat>(format: &F, x: i64) -> Result<u16, HostFault>
 // The word that is nearest to a number, in any format. N3 below the least value, N4 above the greatest.
 fn word_in<F: NumFormat>(format: &F, x: Frac) -> Result<u16, NumFault>
     ensures fault { result_err result
-        ≡ outside_fault (F.lowest format.now) (F.highest format.now) x }
+        ≡ outside_format_fault (F.lowest format.now) (F.highest format.now) x }
     ensures nearest { IfOk result (IsNearest (F.value format.now) (F.rank format.now) x) }
     ensures found { IfOk result
         (λ word. spec_nearest_word (F.value format.now) (F.rank format.now) x ≡ Some word) }

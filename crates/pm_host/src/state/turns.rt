@@ -7,12 +7,12 @@ ghost use Rattle.pm_frame.specs.Layout.{answer_length};
 ghost use Rattle.pm_host.specs.Frames.{frames_from, frames_left};
 ghost use Rattle.pm_host.specs.Image.{held, format_held, formats_held};
 ghost use Rattle.pm_host.specs.Marks.{Good};
-ghost use Rattle.pm_host.specs.Memory.{format_image, AreFormats, IsFormat, IsState};
+ghost use Rattle.pm_host.specs.Memory.{format_image, AreFormatImages, IsFormatImage, IsState};
 ghost use Rattle.pm_host.specs.Possible.{has_room, only};
-ghost use Rattle.pm_host.specs.Progress.{change_to, stage_after};
+ghost use Rattle.pm_host.specs.Progress.{change_to, stage_of_progress};
 ghost use Rattle.pm_host.specs.Question.{question_message, frames_after, IsQuestion};
 ghost use Rattle.pm_host.specs.Sound.{IsOrdering, IsAsking, IsSending, IsSound};
-ghost use Rattle.pm_host.specs.Summary.{possible_at, another as spec_another, marked, writes, sends, read_back as spec_read_back, answered as spec_answered, answer_taken, learned as spec_learned, mode_taken, finished};
+ghost use Rattle.pm_host.specs.Summary.{possible_at, another as spec_another, marked, writes, sends, read_back as spec_read_back, request_answered as spec_answered, answer_taken, learned as spec_learned, mode_taken, finished};
 
 use crate::answers::{byte_in, good_answer, word_in};
 use crate::command::Command;
@@ -84,9 +84,9 @@ impl State {
     ) -> Progress
         requires sound { IsSound (held None self.old) }
         requires ordering { IsOrdering (held None self.old) cell word pass }
-        ensures sound { IsSound (held (stage_after result) self.new) }
+        ensures sound { IsSound (held (stage_of_progress result) self.new) }
         ensures changed { change_to result self.new ≡ spec_read_back (held None self.old) cell word pass read }
-        ensures left { frames_left (held (stage_after result) self.new) ≤ 2 * (self.old.passes - (pass + 1)) }
+        ensures left { frames_left (held (stage_of_progress result) self.new) ≤ 2 * (self.old.passes - (pass + 1)) }
         ensures written { IsState self.old → IsState self.new }
     {
         if let Some(read) = read {
@@ -110,11 +110,11 @@ impl State {
     pub(super) fn answered(&mut self, question: Question, tries: u8, bytes: &[u8]) -> Progress
         requires sound { IsSound (held None self.old) }
         requires asking { IsAsking (held None self.old) question tries }
-        ensures sound { IsSound (held (stage_after result) self.new) }
+        ensures sound { IsSound (held (stage_of_progress result) self.new) }
         ensures changed { change_to result self.new
             ≡ spec_answered (held None self.old) (Some (Stage.Asks question tries)) bytes.now }
         ensures kept { (held None self.new).setup ≡ (held None self.old).setup }
-        ensures left { frames_left (held (stage_after result) self.new)
+        ensures left { frames_left (held (stage_of_progress result) self.new)
             < frames_from self.old.passes (Stage.Asks question tries) }
         ensures written { IsState self.old → IsState self.new }
     {
@@ -128,9 +128,9 @@ impl State {
     fn another(&self, question: Question, tries: u8) -> Progress
         requires sound { IsSound (held None self.now) }
         requires asking { IsAsking (held None self.now) question tries }
-        ensures sound { IsSound (held (stage_after result) self.now) }
+        ensures sound { IsSound (held (stage_of_progress result) self.now) }
         ensures changed { change_to result self.now ≡ spec_another (held None self.now) question tries }
-        ensures left { frames_left (held (stage_after result) self.now)
+        ensures left { frames_left (held (stage_of_progress result) self.now)
             < frames_from self.now.passes (Stage.Asks question tries) }
     {
         let tries = tries + 1;
@@ -146,10 +146,10 @@ impl State {
         requires sound { IsSound (held None self.old) }
         requires there { IsQuestion self.old.outputs question }
         requires whole { length payload.now ≡ answer_length (question_message question) }
-        ensures sound { IsSound (held (stage_after result) self.new) }
+        ensures sound { IsSound (held (stage_of_progress result) self.new) }
         ensures changed { change_to result self.new ≡ answer_taken (held None self.old) question payload.now }
         ensures kept { (held None self.new).setup ≡ (held None self.old).setup }
-        ensures left { frames_left (held (stage_after result) self.new) ≤ frames_after self.old.passes question }
+        ensures left { frames_left (held (stage_of_progress result) self.new) ≤ frames_after self.old.passes question }
         ensures written { IsState self.old → IsState self.new }
     {
         match question {
@@ -166,9 +166,9 @@ impl State {
     fn mode_known(&mut self, output: u8, mode: u8) -> Progress
         requires sound { IsSound (held None self.old) }
         requires there { output < self.old.outputs }
-        ensures sound { IsSound (held (stage_after result) self.new) }
+        ensures sound { IsSound (held (stage_of_progress result) self.new) }
         ensures changed { change_to result self.new ≡ mode_taken (held None self.old) output (mode_of mode) }
-        ensures left { frames_left (held (stage_after result) self.new) ≤ self.old.passes }
+        ensures left { frames_left (held (stage_of_progress result) self.new) ≤ self.old.passes }
         ensures written { IsState self.old → IsState self.new }
     {
         match VoutMode::read(mode) {
@@ -186,10 +186,10 @@ impl State {
         requires sound { IsSound (held None self.old) }
         requires there { output < self.old.outputs }
         ensures sound { IsSound (held None self.new) }
-        ensures over { stage_after result ≡ None }
+        ensures over { stage_of_progress result ≡ None }
         ensures changed { change_to result self.new
             ≡ spec_learned (held None self.old) output (format_held format) }
-        ensures written { IsFormat format → IsState self.old → IsState self.new }
+        ensures written { IsFormatImage format → IsState self.old → IsState self.new }
     {
         if format.format().is_none() {
             return Progress::Over(JobEnd::Unknown);
@@ -202,10 +202,10 @@ impl State {
     pub(super) fn sent(&mut self, command: Command, tries: u8, acked: bool) -> Progress
         requires sound { IsSound (held None self.old) }
         requires sending { IsSending (held None self.old) command tries }
-        ensures sound { IsSound (held (stage_after result) self.new) }
+        ensures sound { IsSound (held (stage_of_progress result) self.new) }
         ensures changed { change_to result self.new
             ≡ finished (held None self.old) (Some (Stage.Sends command tries)) acked }
-        ensures left { frames_left (held (stage_after result) self.new) ≤ self.old.passes - (tries + 1) }
+        ensures left { frames_left (held (stage_of_progress result) self.new) ≤ self.old.passes - (tries + 1) }
         ensures written { IsState self.old → IsState self.new }
     {
         if acked {
@@ -223,7 +223,7 @@ impl State {
 fn put_format(formats: &mut [FormatImage; OUTPUTS], output: u8, format: FormatImage)
     requires { output < 8 }
     ensures held { formats_held formats.new ≡ slice_set (formats_held formats.old) output (format_held format) }
-    ensures written { format ≡ format_image (format_held format) → AreFormats formats.old → AreFormats formats.new }
+    ensures written { format ≡ format_image (format_held format) → AreFormatImages formats.old → AreFormatImages formats.new }
 {
     formats[usize::from(output)] = format;
 }

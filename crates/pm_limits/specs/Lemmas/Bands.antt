@@ -21,7 +21,7 @@ use Rattle.pm_limits.specs.declared.ends.Side.{Side}
 use Rattle.pm_limits.specs.declared.ends.Side.TheVariants.{Lowest, Highest}
 use Rattle.pm_limits.specs.Band.{HasDens, Known, decides, each_selection, end_choice, end_with, is_selected, is_untaken, operation_end}
 use Rattle.pm_limits.specs.Band.{operations, reach, word_end}
-use Rattle.pm_limits.specs.Ends.{Reaches, end_of, farthest_of, format_end, shape_ends}
+use Rattle.pm_limits.specs.Ends.{Reaches, farthest_word, farthest_of, format_end, shape_ends}
 use Rattle.pm_limits.specs.Lemmas.Cuts.{reaches-cut}
 use Rattle.pm_limits.specs.Lemmas.Farthest.{HaveDens, farthest_of-listed, reaches-through}
 use Rattle.pm_num.specs.Lemmas.Order.{not-above}
@@ -74,7 +74,7 @@ greatest-cuts-nothing shape word dens short = not-above (shape_value shape word)
 -- No word that a register may hold lies farther out than the end of what it may hold.
 end-held : (side : Side) (shape : Shape) (possible : Possible) (word : ℕ) → HasDens shape → word < 2 ^ 16 →
     is_possible word possible ≡ true →
-    Reaches side (shape_value shape (end_of side shape (shape_value shape) possible)) (shape_value shape word)
+    Reaches side (shape_value shape (farthest_word side shape (shape_value shape) possible)) (shape_value shape word)
 end-held side shape Any word dens short is = shape-held side shape word dens short
 end-held side shape (Listed words) word dens short is =
     farthest_of-listed side (shape_value shape) words.items word (all-dens (shape_value shape) dens words.items) is

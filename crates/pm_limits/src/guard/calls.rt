@@ -5,7 +5,7 @@ ghost use Rattle.pm_num.specs.AnyFormat.{shape_of};
 ghost use Rattle.pm_table.specs.Cell.{IsCell};
 ghost use Rattle.pm_host.specs.Frames.{frames_left};
 ghost use Rattle.pm_host.specs.Refusals.{may_come, sends_read};
-ghost use Rattle.pm_host.specs.Summary.{format_at, next, possible_at, standing_at, step_of};
+ghost use Rattle.pm_host.specs.Summary.{format_at, host_next, possible_at, standing_at, step_of};
 ghost use Rattle.pm_host.specs.Told.{entry_told, OnEnded};
 ghost use Rattle.pm_host.specs.Transcript.{Restarted};
 ghost use Rattle.pm_host.specs.Turn.{Shows};
@@ -85,7 +85,7 @@ impl Guard {
     /// What became of the frame that `turn` showed, as [`Host::told`].
     pub fn told(&mut self, told: Told<'_>) -> Step
         requires { may_come self.old.host (entry_told told) ≡ true }
-        ensures after { self.new.host ≡ next self.old.host (entry_told told.entry) }
+        ensures after { self.new.host ≡ host_next self.old.host (entry_told told.entry) }
         ensures limits { self.new.limits ≡ self.old.limits }
         ensures registers { self.new.registers ≡ self.old.registers }
         ensures step { result ≡ step_of self.old.host (entry_told told.entry) }
@@ -98,7 +98,7 @@ impl Guard {
 
     /// Drops the open job and all that is known, as [`Host::restart`]. The limits stay.
     pub fn restart(&mut self)
-        ensures after { self.new.host ≡ next self.old.host Restarted }
+        ensures after { self.new.host ≡ host_next self.old.host Restarted }
         ensures limits { self.new.limits ≡ self.old.limits }
         ensures registers { self.new.registers ≡ self.old.registers }
         ensures kept { self.new.host.setup ≡ self.old.host.setup }

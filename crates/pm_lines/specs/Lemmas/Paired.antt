@@ -1,5 +1,5 @@
 -- The bytes of a line's words, and the pairs of digits that stand one after another in it. The clauses of `spaced_pair`
--- and `four_pairs` say which pairs they take; `line_read` and `not_paired` say what a line reads as whose pairs were taken.
+-- and `four_pairs` say which pairs they take; `words_have_paired_bytes` and `not_paired` say what a line reads as whose pairs were taken.
 use Rattle.std.proofs.Common.{◌≡◌, ◌∙◌, ◌-◌, ◌<◌, ◌≤◌, ◌++◌, ◌&&◌, ℕ, Bool, true, false, cond, List, [], ◌∷◌, length, take}
 use Rattle.std.proofs.Common.{drop, get_or, Option, Some, None, option_map, refl, sym, ap, arith}
 use Rattle.std.specs.Prelude.{filter}
@@ -92,13 +92,13 @@ split_read (x ∷ y ∷ rest) =
     two_read x y rest (split_read (y ∷ rest)) (split_read rest) (is_space x) (is_space y) (is_hex_digit x) (is_hex_digit y) refl refl refl
 
 -- the bytes of a line's words are those of its pairs, where nothing follows these
-pub line_read : (line : List ℕ) → bytes_of (words_of line) ≡ nothing_behind (behind_pairs line) (paired_bytes line)
+pub words_have_paired_bytes : (line : List ℕ) → bytes_of (words_of line) ≡ nothing_behind (behind_pairs line) (paired_bytes line)
 unfolding words_of
-line_read line = unfiltered (slice_split is_space line) ∙ split_read line
+words_have_paired_bytes line = unfiltered (slice_split is_space line) ∙ split_read line
 
 -- a line with pairs has a word
 pub some_word : (line : List ℕ) → 0 < length (paired_bytes line) → 0 < length (words_of line)
-some_word line some = by (words_of line) (behind_pairs line) (paired_bytes line) (line_read line) some
+some_word line some = by (words_of line) (behind_pairs line) (paired_bytes line) (words_have_paired_bytes line) some
   where
     by : (words : List (List ℕ)) (rest bytes : List ℕ) → bytes_of words ≡ nothing_behind rest bytes → 0 < length bytes → 0 < length words
     by [] [] bytes read some = let none : [] ≡ bytes = cc in absurd (omega (arith, ap length none))
@@ -111,11 +111,11 @@ some_word line some = by (words_of line) (behind_pairs line) (paired_bytes line)
 pub all_paired : (line before now rest : List ℕ) → now ≡ before ++ paired_bytes line → rest ≡ behind_pairs line → length rest < 1
     → option_map (λ more. before ++ more) (bytes_of (words_of line)) ≡ Some now
 all_paired line before now rest is behind none =
-    rw (line_read line, ← behind, nil_from_length rest (omega (arith, none)), is) refl
+    rw (words_have_paired_bytes line, ← behind, nil_from_length rest (omega (arith, none)), is) refl
 
 -- a line whose pairs are followed by more writes no bytes
 pub not_paired : (line rest : List ℕ) → rest ≡ behind_pairs line → 1 ≤ length rest → bytes_of (words_of line) ≡ None
-not_paired line rest behind some = line_read line ∙ by (behind_pairs line) (omega (arith, ap length behind))
+not_paired line rest behind some = words_have_paired_bytes line ∙ by (behind_pairs line) (omega (arith, ap length behind))
   where
     by : (left : List ℕ) → 1 ≤ length left → nothing_behind left (paired_bytes line) ≡ None
     by [] some = absurd (omega arith)

@@ -2,7 +2,7 @@
 use Rattle.std.proofs.Common.{◌≡◌, ℕ, List, [], ◌∷◌, Option, Some, None, refl, ◌∙◌}
 use Rattle.pm_device.specs.Effect as device
 use Rattle.pm_device.specs.Held.{Held}
-use Rattle.pm_device.specs.History.{after as device_after_outcome, next as device_next}
+use Rattle.pm_device.specs.History.{after_outcome as device_after_outcome, device_next}
 use Rattle.pm_world.specs.State.{device_after, next, share_of}
 use Rattle.pm_part_laws.specs.Happenings.{Happening, Happens, Hears, beside}
 

@@ -36,21 +36,22 @@ use Rattle.pm_world.specs.Job.{asked_by, job_of}
 use Rattle.pm_world.specs.Lemmas.{entries-more, now-config}
 use Rattle.pm_world.specs.Life.{life, now}
 use Rattle.pm_world.specs.Parts.{stored_config}
-use Rattle.pm_world.specs.Possible.{has_read as world_read, restarted_between as world_between, restarted_since_host as world_host}
-use Rattle.pm_world.specs.Possible.{surprises, surprises_by as world_surprises}
+use Rattle.pm_world.specs.Possible.{host_has_read as world_read, restarted_between as world_between, restarted_since_host as world_host}
+use Rattle.pm_world.specs.Possible.{answer_surprises, surprises_by as world_surprises}
 use Rattle.pm_world.specs.Possible.{restarts_host}
 use Rattle.pm_world.specs.Retelling.{open_pending as world_pending, pending_of}
 use Rattle.pm_world.specs.Setup.{setup_of}
 use Rattle.pm_world.specs.State.{State, asked, share_of}
 use Rattle.pm_world.specs.Surveys.{AreRead as WorldRead, was_read as world_was}
-use Rattle.pm_part_laws.specs.Alike.{LivesAlike, event_like, events_like, narrow, renewed}
-use Rattle.pm_part_laws.specs.Answers.{answers, has_read, renews, restarted_between, restarted_since, restarted_since_host, surprises_by}
-use Rattle.pm_part_laws.specs.Happenings.{Happening, Happens, Hears, MayAllHappen, begins_another, beside, restarts, told}
-use Rattle.pm_part_laws.specs.Limits.{BandStands}
-use Rattle.pm_part_laws.specs.Moves.{open_pending}
-use Rattle.pm_part_laws.specs.OwnWords.{commands}
+use Rattle.pm_part_laws.specs.Alike.{LivesAlike, event_like, events_like, narrow, with_host_restart}
+use Rattle.pm_part_laws.specs.Answers.{answers, host_has_read_beside, renews, restarted_between_beside, restarted_since_beside}
+use Rattle.pm_part_laws.specs.Answers.{restarted_since_host_beside, surprises_by_beside}
+use Rattle.pm_part_laws.specs.Happenings.{Happening, Happens, Hears, MayAllHappen, begins_another, beside, restarts, entries_beside}
+use Rattle.pm_part_laws.specs.Limits.{BandStandsBeside}
+use Rattle.pm_part_laws.specs.Moves.{open_pending_beside}
+use Rattle.pm_part_laws.specs.OwnWords.{commands_beside}
 use Rattle.pm_part_laws.specs.Settings.{modes_of}
-use Rattle.pm_part_laws.specs.Surveys.{AreRead, was_read}
+use Rattle.pm_part_laws.specs.Surveys.{AreRead, was_read_beside}
 use Rattle.pm_part_laws.specs.Lemmas.Renewed.{newest-same, open-same, reads-same, surprises-same}
 
 -- an event and the like one
@@ -76,13 +77,13 @@ module _ (held : Held) (passes : ℕ) (alike : LivesAlike held passes) where
 
   -- the life that is like what happened
   abbrev pub at : List Happening → List Event
-  at happened = narrow held passes happened ++ renewed alike.earlier
+  at happened = narrow held passes happened ++ with_host_restart alike.earlier
 
   -- the event that is like one
   abbrev pub likely : List Happening → Event → Event
   likely before event = event_like (beside held passes before) event
 
-  pub at-none : at [] ≡ renewed alike.earlier
+  pub at-none : at [] ≡ with_host_restart alike.earlier
   unfolding narrow
   at-none = refl
 
@@ -99,14 +100,14 @@ module _ (held : Held) (passes : ℕ) (alike : LivesAlike held passes) where
   older = (life config passes alike.earlier).entries
 
   pub entries-at : (happened : List Happening) → MayAllHappen held passes happened →
-      (life config passes (at happened)).entries ≡ told held passes happened ++ Restarted ∷ older
+      (life config passes (at happened)).entries ≡ entries_beside held passes happened ++ Restarted ∷ older
   entries-at happened may = (alike.like happened may).told_is
-      ∙ ap (λ (l : List Entry). told held passes happened ++ l) (entries-more config passes alike.earlier RestartHost)
+      ∙ ap (λ (l : List Entry). entries_beside held passes happened ++ l) (entries-more config passes alike.earlier RestartHost)
 
   -- the host was told the same since it last started
   pub newest-at : (happened : List Happening) → MayAllHappen held passes happened →
-      since_restart (life config passes (at happened)).entries ≡ since_restart (told held passes happened)
-  newest-at happened may = ap since_restart (entries-at happened may) ∙ newest-same older (told held passes happened)
+      since_restart (life config passes (at happened)).entries ≡ since_restart (entries_beside held passes happened)
+  newest-at happened may = ap since_restart (entries-at happened may) ∙ newest-same older (entries_beside held passes happened)
 
   -- the job that an event asks for, as the host accepts it
   pub asked-at : (event : Event) (before : List Happening) → MayAllHappen held passes before →
@@ -128,7 +129,7 @@ module _ (held : Held) (passes : ℕ) (alike : LivesAlike held passes) where
 
   -- what an output commands, and the words of registers that the part doesn't have
   pub commands-at : (happened : List Happening) → MayAllHappen held passes happened → (output : ℕ) →
-      world_commands config passes (at happened) output ≡ commands held passes happened output
+      world_commands config passes (at happened) output ≡ commands_beside held passes happened output
   commands-at happened may output =
       ap₂ (λ (s : Shape) (w : Words). commanded (shape_value s) w output) (shape-at output) (alike.like happened may).words
 
@@ -141,38 +142,39 @@ module _ (held : Held) (passes : ℕ) (alike : LivesAlike held passes) where
 
   -- the order, store or restore that is open
   pub pending-at : (happened : List Happening) → MayAllHappen held passes happened →
-      world_pending config passes (at happened) ≡ open_pending held passes happened
+      world_pending config passes (at happened) ≡ open_pending_beside held passes happened
   unfolding world_pending
   pending-at happened may = ap (option_and_then pending_of)
-      (ap (open_job (setup_of config passes)) (entries-at happened may) ∙ open-same older (setup_of config passes) (told held passes happened))
+      (ap (open_job (setup_of config passes)) (entries-at happened may) ∙ open-same older (setup_of config passes) (entries_beside held passes happened))
 
   -- a good answer, and one that surprises
   pub answers-at : (cell : Cell) (event : Event) (before : List Happening) → MayAllHappen held passes (Happens event ∷ before) →
       reads_cell config passes cell (at before) (likely before event) ≡ answers held passes cell before (Happens event)
   answers-at cell event before may =
       ap₂ (λ (l : List Entry) (t : Option Entry). reads (setup_of config passes) l cell t) (entries-at before may.1) (alike.tells before event may)
-      ∙ reads-same older (setup_of config passes) (told held passes before) cell (share_of (beside held passes before) event).told
+      ∙ reads-same older (setup_of config passes) (entries_beside held passes before) cell (share_of (beside held passes before) event).told
 
   pub surprises-at : (cell : Cell) (event : Event) (before : List Happening) → MayAllHappen held passes (Happens event ∷ before) →
-      world_surprises config passes cell (at before) (likely before event) ≡ surprises_by held passes cell before (Happens event)
+      world_surprises config passes cell (at before) (likely before event) ≡ surprises_by_beside held passes cell before (Happens event)
   surprises-at cell event before may =
-      ap₂ (λ (l : List Entry) (t : Option Entry). surprises (setup_of config passes) l cell t) (entries-at before may.1)
+      ap₂ (λ (l : List Entry) (t : Option Entry). answer_surprises (setup_of config passes) l cell t) (entries-at before may.1)
       (alike.tells before event may)
-      ∙ surprises-same (setup_of config passes) older (told held passes before) cell (share_of (beside held passes before) event).told
+      ∙ surprises-same (setup_of config passes) older (entries_beside held passes before) cell
+      (share_of (beside held passes before) event).told
 
   -- a restart of the converter since the host's last good answer for a cell
   pub since-at : ListsSayEnough → (cell : Cell) (happened : List Happening) → MayAllHappen held passes happened →
-      world_since config passes cell (at happened) ≡ restarted_since held passes cell happened
-  unfolding restarted_since world_since narrow
-  since-at lists cell [] may = lists.since config passes cell (renewed alike.earlier) alike.reached.steady
+      world_since config passes cell (at happened) ≡ restarted_since_beside held passes cell happened
+  unfolding restarted_since_beside world_since narrow
+  since-at lists cell [] may = lists.since config passes cell (with_host_restart alike.earlier) alike.reached.steady
   since-at lists cell (Happens event ∷ before) may =
       ap₂ (λ (a b : Bool). cond a false b) (answers-at cell event before may)
       (ap₂ (λ (a b : Bool). a || b) (restarts-like (beside held passes before) event) (since-at lists cell before may.1))
   since-at lists cell (Hears bytes ending ∷ before) may = since-at lists cell before may.1
 
   pub read-at : (cell : Cell) (happened : List Happening) → MayAllHappen held passes happened →
-      world_read config passes cell (at happened) ≡ has_read held passes cell happened
-  unfolding has_read world_read narrow
+      world_read config passes cell (at happened) ≡ host_has_read_beside held passes cell happened
+  unfolding host_has_read_beside world_read narrow
   read-at cell [] may = refl
   read-at cell (Happens event ∷ before) may =
       ap₂ (λ (a b : Bool). cond a false b) (renews-like (beside held passes before) event)
@@ -180,8 +182,8 @@ module _ (held : Held) (passes : ℕ) (alike : LivesAlike held passes) where
   read-at cell (Hears bytes ending ∷ before) may = read-at cell before may.1
 
   pub between-at : ListsSayEnough → (cell : Cell) (happened : List Happening) → MayAllHappen held passes happened →
-      world_between config passes cell (at happened) ≡ restarted_between held passes cell happened
-  unfolding restarted_between world_between narrow
+      world_between config passes cell (at happened) ≡ restarted_between_beside held passes cell happened
+  unfolding restarted_between_beside world_between narrow
   between-at lists cell [] may = refl
   between-at lists cell (Happens event ∷ before) may =
       ap₂ (λ (a b : Bool). cond a false b) (renews-like (beside held passes before) event)
@@ -191,8 +193,8 @@ module _ (held : Held) (passes : ℕ) (alike : LivesAlike held passes) where
       (between-at lists cell before may.1))
   between-at lists cell (Hears bytes ending ∷ before) may = between-at lists cell before may.1
 
-  pub host-at : (happened : List Happening) → world_host (at happened) ≡ restarted_since_host happened
-  unfolding restarted_since_host world_host narrow
+  pub host-at : (happened : List Happening) → world_host (at happened) ≡ restarted_since_host_beside happened
+  unfolding restarted_since_host_beside world_host narrow
   host-at [] = refl
   host-at (Happens event ∷ before) =
       ap₂ (λ (a b : Bool). cond a false b) (renews-like (beside held passes before) event)
@@ -201,7 +203,7 @@ module _ (held : Held) (passes : ℕ) (alike : LivesAlike held passes) where
 
   -- the answers that a band rests on
   pub stands-at : ListsSayEnough → (happened : List Happening) → MayAllHappen held passes happened → (output : ℕ) →
-      BandStands held passes happened output → WorldStands config passes (at happened) (now config passes (at happened)).host output
+      BandStandsBeside held passes happened output → WorldStands config passes (at happened) (now config passes (at happened)).host output
   stands-at lists happened may output stands register decide named =
       let host = (alike.like happened may).host in
       since-at lists (Out output register) happened may
@@ -217,7 +219,8 @@ module _ (held : Held) (passes : ℕ) (alike : LivesAlike held passes) where
   unfolding narrow
   at-since [] before = refl
   at-since (one ∷ later) before =
-      append_assoc (events_like (beside held passes (later ++ before)) one) (narrow held passes (later ++ before)) (renewed alike.earlier)
+      append_assoc (events_like (beside held passes (later ++ before)) one) (narrow held passes (later ++ before))
+      (with_host_restart alike.earlier)
       ∙ (ap (λ (l : List Event). events_like (beside held passes (later ++ before)) one ++ l) (at-since later before)
       ∙ sym (append_assoc (events_like (beside held passes (later ++ before)) one) (since later before) (at before)))
 
@@ -242,7 +245,7 @@ module _ (held : Held) (passes : ℕ) (alike : LivesAlike held passes) where
 
   -- what was read later
   pub was-at : (cell : Cell) (later before : List Happening) → MayAllHappen held passes (later ++ before) →
-      world_was config passes cell (since later before) (at before) ≡ was_read held passes cell later before
+      world_was config passes cell (since later before) (at before) ≡ was_read_beside held passes cell later before
   was-at cell [] before may = refl
   was-at cell (Happens event ∷ later) before may =
       ap₂ (λ (a b : Bool). a || b)

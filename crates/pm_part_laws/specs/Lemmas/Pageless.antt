@@ -37,7 +37,7 @@ use Rattle.pm_device.specs.declared.converter.Ending.TheVariants.{Stop, Restart}
 use Rattle.pm_device.specs.declared.converter.Heard.{Heard}
 use Rattle.pm_device.specs.Effect as device
 use Rattle.pm_device.specs.Held.{Held}
-use Rattle.pm_device.specs.History.{after, next as device_next}
+use Rattle.pm_device.specs.History.{after_outcome, device_next}
 use Rattle.pm_device.specs.Laws.{WritesReachOneCell}
 use Rattle.pm_device.specs.Reply.{register_bytes, reply_of, reply_to}
 use Rattle.pm_device.specs.Verdict.{answers_coefficients, has_coefficients, fault_verdict, read_verdict, unless_faulty, verdict_of}
@@ -62,12 +62,12 @@ answer_of held request arrival =
     answer_in (reply_of held (heard_bytes request arrival) (ending_of Restart arrival))
 
 -- the words and the store of what is kept
-abbrev pub settings_in : device.Kept → List ℕ × List ℕ
-settings_in kept = (kept.words, kept.store)
+abbrev pub kept_words_and_store : device.Kept → List ℕ × List ℕ
+kept_words_and_store kept = (kept.words, kept.store)
 
 -- what is the same of both makes the same settings
 pub settings-of : (one other : Held) → one.config ≡ record other.config { starts = one.config.starts; protect = one.config.protect } →
-    modes_of one.config ≡ modes_of other.config → settings_in (device.kept_in one) ≡ settings_in (device.kept_in other) →
+    modes_of one.config ≡ modes_of other.config → kept_words_and_store (device.kept_in one) ≡ kept_words_and_store (device.kept_in other) →
     HaveSameSettings one other
 settings-of one other made modes kept = record {
   same = ap₂ (λ (c : Config) (k : List ℕ × List ℕ). record one { config = c; words = k.0; store = k.1 }) made kept;
@@ -108,27 +108,28 @@ IsHeardPageless addr _ = Unit {0}
 -- A host's write makes the same of both.
 own-after : WritesReachOneCell → (held one : Held) (stage : Stage) (bytes : List ℕ) → is_read_message (stage_message stage) ≡ false →
     IsWrite held.config.addr (stage_message stage) bytes →
-    settings_in (device.kept_after (moved held one) (device.Hearing bytes Stop))
-    ≡ settings_in (device.kept_after held (device.Hearing bytes Stop))
+    kept_words_and_store (device.kept_after (moved held one) (device.Hearing bytes Stop))
+    ≡ kept_words_and_store (device.kept_after held (device.Hearing bytes Stop))
 own-after reach held one (Writes (Out output register) word pass) bytes writes is =
-    ap settings_in (reach.carried (moved held one) output (register_code register) (register_payload register word)
+    ap kept_words_and_store (reach.carried (moved held one) output (register_code register) (register_payload register word)
     (Out output register) bytes is (found register))
-    ∙ sym (ap settings_in (reach.carried held output (register_code register) (register_payload register word)
+    ∙ sym (ap kept_words_and_store (reach.carried held output (register_code register) (register_payload register word)
     (Out output register) bytes is (found register)))
   where
     found : (r : Reg) → cell_at (register_code r) output ≡ Some (Out output r)
     found Operation = refl
     found register = refl
 own-after reach held one (Writes Protect word pass) bytes writes is =
-    ap settings_in (reach.plain (moved held one) word bytes is) ∙ sym (ap settings_in (reach.plain held word bytes is))
+    ap kept_words_and_store (reach.plain (moved held one) word bytes is) ∙ sym (ap kept_words_and_store (reach.plain held word bytes is))
 own-after reach held one (Sends (ClearFaults output) tries) bytes writes is =
-    ap settings_in (reach.clears (moved held one) output Empty bytes is) ∙ sym (ap settings_in (reach.clears held output Empty bytes is))
+    ap kept_words_and_store (reach.clears (moved held one) output Empty bytes is)
+    ∙ sym (ap kept_words_and_store (reach.clears held output Empty bytes is))
 own-after reach held one (Sends StoreUserAll tries) bytes writes is =
-    ap settings_in (reach.stores (moved held one) (command_message StoreUserAll) bytes is refl)
-    ∙ sym (ap settings_in (reach.stores held (command_message StoreUserAll) bytes is refl))
+    ap kept_words_and_store (reach.stores (moved held one) (command_message StoreUserAll) bytes is refl)
+    ∙ sym (ap kept_words_and_store (reach.stores held (command_message StoreUserAll) bytes is refl))
 own-after reach held one (Sends RestoreUserAll tries) bytes writes is =
-    ap settings_in (reach.restores (moved held one) (command_message RestoreUserAll) bytes is refl)
-    ∙ sym (ap settings_in (reach.restores held (command_message RestoreUserAll) bytes is refl))
+    ap kept_words_and_store (reach.restores (moved held one) (command_message RestoreUserAll) bytes is refl)
+    ∙ sym (ap kept_words_and_store (reach.restores held (command_message RestoreUserAll) bytes is refl))
 own-after reach held one (Reads (Out output register) word pass) bytes writes is = cc
 own-after reach held one (Reads Protect word pass) bytes writes is = cc
 own-after reach held one (Asks (Word (Out output register)) tries) bytes writes is = cc
@@ -138,12 +139,12 @@ own-after reach held one (Asks (Coefficients output) tries) bytes writes is = cc
 
 -- what is kept after an event at both
 kept-alike : WritesReachOneCell → (held one : Held) (event : device.Event) → IsHeardPageless held.config.addr (Some event) →
-    settings_in (device.kept_after (moved held one) event) ≡ settings_in (device.kept_after held event)
+    kept_words_and_store (device.kept_after (moved held one) event) ≡ kept_words_and_store (device.kept_after held event)
 kept-alike reach held one (device.Hearing bytes Stop) (inl faulty) =
-    ap settings_in (reach.faulty (moved held one) bytes faulty) ∙ sym (ap settings_in (reach.faulty held bytes faulty))
+    ap kept_words_and_store (reach.faulty (moved held one) bytes faulty) ∙ sym (ap kept_words_and_store (reach.faulty held bytes faulty))
 kept-alike reach held one (device.Hearing bytes Stop) (inr own) = own-after reach held one own.stage bytes own.writes own.is
 kept-alike reach held one (device.Hearing bytes Restart) pageless =
-    ap settings_in (reach.request (moved held one) bytes) ∙ sym (ap settings_in (reach.request held bytes))
+    ap kept_words_and_store (reach.request (moved held one) bytes) ∙ sym (ap kept_words_and_store (reach.request held bytes))
 kept-alike reach held one device.Restarted pageless = refl
 kept-alike reach held one (device.Reading output code word) pageless = refl
 
@@ -153,12 +154,12 @@ next-made : (held one : Held) (event : device.Event) → (device_next (moved hel
       starts = (device_next (moved held one) event).config.starts;
       protect = (device_next (moved held one) event).config.protect;
     }
-unfolding device_next after
+unfolding device_next after_outcome
 next-made held one event = refl
 
 next-modes : (held one : Held) (event : device.Event) → modes_of one.config ≡ modes_of held.config →
     modes_of (device_next (moved held one) event).config ≡ modes_of (device_next held event).config
-unfolding device_next after
+unfolding device_next after_outcome
 next-modes held one event modes = modes
 
 -- an event makes the same settings of both
@@ -167,8 +168,8 @@ next-same : WritesReachOneCell → (held one : Held) (event : device.Event) → 
 next-same reach held one event modes pageless =
     settings-of (device_next (moved held one) event) (device_next held event) (next-made held one event)
     (next-modes held one event modes)
-    (ap settings_in (reach.kept (moved held one) event)
-    ∙ (kept-alike reach held one event pageless ∙ sym (ap settings_in (reach.kept held event))))
+    (ap kept_words_and_store (reach.kept (moved held one) event)
+    ∙ (kept-alike reach held one event pageless ∙ sym (ap kept_words_and_store (reach.kept held event))))
 
 pub after-same : WritesReachOneCell → (one other : Held) (heard : Option device.Event) → IsHeardPageless other.config.addr heard →
     HaveSameSettings one other → HaveSameSettings (device_after one heard) (device_after other heard)

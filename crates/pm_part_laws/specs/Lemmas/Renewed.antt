@@ -8,9 +8,10 @@ use Rattle.pm_table.specs.Cell.{is_output_cell, same_cell}
 use Rattle.pm_host.specs.Answers.{good_word}
 use Rattle.pm_host.specs.Marks.{Mark, Good, Put, Restart, Restored, goods, marks, put_by, puts, read_by}
 use Rattle.pm_host.specs.Possible.{is_possible, possible_from, possible_of, words_since}
-use Rattle.pm_host.specs.Transcript.{Accepted, Entry, Finished, Got, Job, Restarted, Setup, end_of, job_end, last_job, open_job, told_since}
+use Rattle.pm_host.specs.Transcript.{Accepted, Entry, Finished, Got, Job, Restarted, Setup, last_job_end, job_end, last_job, open_job}
+use Rattle.pm_host.specs.Transcript.{told_since}
 use Rattle.pm_world.specs.Confirmed.{is_good_for, reads}
-use Rattle.pm_world.specs.Possible.{is_surprise_for, surprises}
+use Rattle.pm_world.specs.Possible.{is_surprise_for, answer_surprises}
 use Rattle.pm_world.specs.Uncertainty.{since_restart}
 
 module _ (rest : List Entry) where
@@ -30,7 +31,7 @@ module _ (rest : List Entry) where
 
   -- the job that is open, the marks of what begins to be sent and of a good answer
   pub open-same : (setup : Setup) (since : List Entry) → open_job setup (since ++ Restarted ∷ rest) ≡ open_job setup since
-  unfolding open_job end_of
+  unfolding open_job last_job_end
   open-same setup since = ap₂ (λ (j : Option Job) (l : List Entry).
       cond (is_none (option_and_then (λ job. job_end setup job l) j)) j None) (last-same since) (told-same since)
 
@@ -92,7 +93,7 @@ words-same rest (Good read word ∷ since) cell =
 
 -- a good answer that wasn't possible
 pub surprises-same : (setup : Setup) (rest since : List Entry) (cell : Cell) (told : Option Entry) →
-    surprises setup (since ++ Restarted ∷ rest) cell told ≡ surprises setup since cell told
+    answer_surprises setup (since ++ Restarted ∷ rest) cell told ≡ answer_surprises setup since cell told
 unfolding possible_of
 surprises-same setup rest since cell (Some (Got bytes)) =
     ap₂ (λ (m g : List Mark). list_any (is_surprise_for cell m) g) (marks-same rest setup since) (goods-same rest setup since bytes)

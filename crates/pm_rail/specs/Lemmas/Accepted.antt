@@ -31,7 +31,7 @@ use Rattle.pm_limits.specs.Guard.{Guarded, guard_fault, judged, limits_at, missi
 use Rattle.pm_limits.specs.Part.{has_register, missing_word}
 use Rattle.pm_rail.specs.declared.orders.PlanOrder.{PlanOrder}
 use Rattle.pm_rail.specs.Known.{Cells, cells_of, known_of, sole, sole_of}
-use Rattle.pm_rail.specs.Orders.{below_fault, is_wanted, is_wanted_above, is_wanted_below, is_wanted_missing, limits_fault, order_of, plan_of}
+use Rattle.pm_rail.specs.Orders.{below_limit_fault, is_wanted, is_wanted_above, is_wanted_below, is_wanted_missing, limits_fault, order_of, plan_of}
 use Rattle.pm_rail.specs.Plan.{goal_of, next_register}
 use Rattle.pm_rail.specs.Registers.{Held, Wants}
 use Rattle.pm_rail.specs.Lemmas.Ends.{due}
@@ -58,7 +58,7 @@ limit-says Unknown shape wants register word free volt is =
 limit-says (Between bounds) shape wants register word free volt is =
     let below = none-voltage _ (is_wanted_below (micros bounds.least) (shape_value shape) wants) (or-none _ _ free).0 register volt in
     let above = none-voltage _ (is_wanted_above (micros bounds.most) (shape_value shape) wants)
-    (or-none (below_fault (micros bounds.least) (shape_value shape) wants) _ free).1 register volt in
+    (or-none (below_limit_fault (micros bounds.least) (shape_value shape) wants) _ free).1 register volt in
     by (is_above (micros bounds.least) (shape_value shape word)) (is_above (shape_value shape word) (micros bounds.most))
     (sym (ap (λ (o : Option ℕ). option_map_or (λ w. is_above (micros bounds.least) (shape_value shape w)) o false) is) ∙ below)
     (sym (ap (λ (o : Option ℕ). option_map_or (λ w. is_above (shape_value shape w) (micros bounds.most)) o false) is) ∙ above)
@@ -116,11 +116,11 @@ sole-there part shape s output register has some =
     stands-not VoutMin h = ap (λ (b : Bool). if b then None else Some (format_end Lowest shape)) h
     stands-not r h = refl
 
-pub accepted : (g : Guarded) (output : ℕ) (wants : Wants) (register : Reg) (word : ℕ) →
+pub planned_order_is_accepted : (g : Guarded) (output : ℕ) (wants : Wants) (register : Reg) (word : ℕ) →
     output < g.host.setup.outputs → wants Operation ≡ None →
     plan_of g.registers g.host (limits_at g output) output wants ≡ Ok (Some (record { register = register; word = word })) →
     guard_fault g (Order (Out output register) word) ≡ None
-accepted g output wants register word here none is =
+planned_order_is_accepted g output wants register word here none is =
     go (next_register (shape_value planned.shape) known wants) refl planned.next
   where
     s : Summary

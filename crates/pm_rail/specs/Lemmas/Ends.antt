@@ -10,9 +10,9 @@ use Rattle.pm_table.specs.declared.reg.Reg.{Reg}
 use Rattle.pm_table.specs.declared.reg.Reg.TheVariants.{Operation, VoutCommand, VoutMax, MarginHigh, MarginLow, VoutMin}
 use Rattle.pm_table.specs.Rules.{first, rule}
 use Rattle.pm_model.specs.Commanded.{Scale}
-use Rattle.pm_rail.specs.Plan.{after, goal_of, is_due, max_first, min_falls, min_first, next_register, put}
+use Rattle.pm_rail.specs.Plan.{words_after_orders, goal_of, is_due, max_first, min_falls, min_first, next_register, put}
 use Rattle.pm_rail.specs.Registers.{Held, Wants}
-use Rattle.pm_rail.specs.Lemmas.Steps.{first-of, goal-after, goal-operation, same}
+use Rattle.pm_rail.specs.Lemmas.Steps.{first-of, goal-after, goal-operation, equal_by_test}
 
 -- Words of which one has a value above the other's differ.
 apart : (value : Scale) (x y : ℕ) → is_above (value x) (value y) ≡ true → not (x == y) ≡ true
@@ -20,7 +20,7 @@ apart value x y h = go (not (x == y)) refl where
   go : (b : Bool) → not (x == y) ≡ b → b ≡ true
   go true e = refl
   go false e =
-      let bad : is_above (value y) (value y) ≡ true = subst (λ (w : ℕ). is_above (value w) (value y) ≡ true) (same x y e) h in
+      let bad : is_above (value y) (value y) ≡ true = subst (λ (w : ℕ). is_above (value w) (value y) ≡ true) (equal_by_test x y e) h in
       absurd (let never = not-above-itself (value y) in cc)
 
 -- a limit that is widened is due
@@ -76,11 +76,11 @@ due value held wants register is = next-due held wants register (subst (λ o. Is
 none-due : (held : Held) (wants : Wants) → wants Operation ≡ None → IsNext held wants None → (register : Reg) →
     held register ≡ goal_of held wants register
 none-due held wants none free Operation = sym (goal-operation held wants none)
-none-due held wants none free VoutCommand = sym (same (goal_of held wants VoutCommand) (held VoutCommand) free.0)
-none-due held wants none free MarginHigh = sym (same (goal_of held wants MarginHigh) (held MarginHigh) free.1)
-none-due held wants none free MarginLow = sym (same (goal_of held wants MarginLow) (held MarginLow) free.2)
-none-due held wants none free VoutMax = sym (same (goal_of held wants VoutMax) (held VoutMax) free.3)
-none-due held wants none free VoutMin = sym (same (goal_of held wants VoutMin) (held VoutMin) free.4)
+none-due held wants none free VoutCommand = sym (equal_by_test (goal_of held wants VoutCommand) (held VoutCommand) free.0)
+none-due held wants none free MarginHigh = sym (equal_by_test (goal_of held wants MarginHigh) (held MarginHigh) free.1)
+none-due held wants none free MarginLow = sym (equal_by_test (goal_of held wants MarginLow) (held MarginLow) free.2)
+none-due held wants none free VoutMax = sym (equal_by_test (goal_of held wants VoutMax) (held VoutMax) free.3)
+none-due held wants none free VoutMin = sym (equal_by_test (goal_of held wants VoutMin) (held VoutMin) free.4)
 
 pub done : (value : Scale) (held : Held) (wants : Wants) → wants Operation ≡ None →
     next_register value held wants ≡ None → (register : Reg) → held register ≡ goal_of held wants register
@@ -126,10 +126,10 @@ five-at-most held wants = go (is_due held wants VoutCommand) (is_due held wants 
     go a b c d e = let a' = small a in let b' = small b in let c' = small c in let d' = small d in let e' = small e in omega arith
 
 runs-down : (value : Scale) (held : Held) (wants : Wants) (n : ℕ) →
-    (left (after value wants held n) wants + n ≤ 5) ⊎ (left (after value wants held n) wants ≡ 0)
+    (left (words_after_orders value wants held n) wants + n ≤ 5) ⊎ (left (words_after_orders value wants held n) wants ≡ 0)
 runs-down value held wants zero = inl (let few = five-at-most held wants in omega arith)
 runs-down value held wants (suc n) =
-    let here = after value wants held n in
+    let here = words_after_orders value wants held n in
     elim (fewer here wants (next_register value here wants) (is-next value here wants)) [
       | inr z ↦ inr z
       | inl less ↦ elim (runs-down value held wants n) [
@@ -149,9 +149,9 @@ none-left held wants z = go (is_due held wants VoutCommand) (is_due held wants M
     go a b c d e h = absurd (omega arith)
 
 pub five : (value : Scale) (held : Held) (wants : Wants) → wants Operation ≡ None →
-    (register : Reg) → after value wants held 5 register ≡ goal_of held wants register
+    (register : Reg) → words_after_orders value wants held 5 register ≡ goal_of held wants register
 five value held wants none register =
-    let here = after value wants held 5 in
+    let here = words_after_orders value wants held 5 in
     let zero_left : left here wants ≡ 0 = elim (runs-down value held wants 5) [
       | inl low ↦ omega arith
       | inr z ↦ z

@@ -67,15 +67,15 @@ one-place None None h = refl
 one-place p q h = cc
 
 -- each place stands once in the list
-pub once : (p : Option Reg) → total (same_place p) ≡ 1
+pub each_place_is_once : (p : Option Reg) → total (same_place p) ≡ 1
 unfolding total
-once (Some Operation) = refl
-once (Some VoutCommand) = refl
-once (Some VoutMax) = refl
-once (Some MarginHigh) = refl
-once (Some MarginLow) = refl
-once (Some VoutMin) = refl
-once None = refl
+each_place_is_once (Some Operation) = refl
+each_place_is_once (Some VoutCommand) = refl
+each_place_is_once (Some VoutMax) = refl
+each_place_is_once (Some MarginHigh) = refl
+each_place_is_once (Some MarginLow) = refl
+each_place_is_once (Some VoutMin) = refl
+each_place_is_once None = refl
 
 -- one more passes
 pub more-in : (p q : Option Reg → Bool) (at : Option Reg) → ((x : Option Reg) → same_place at x ≡ false → q x ≡ p x) →
@@ -98,11 +98,11 @@ more-in p q at others off on (x ∷ xs) = go (more-in p q at others off on xs) (
       rw (is_on, is_off) (omega arith)
   go rest false e = equal rest (p x) (q x) (others x e)
 
-pub more : (p q : Option Reg → Bool) (at : Option Reg) → ((x : Option Reg) → same_place at x ≡ false → q x ≡ p x) →
+pub one_place_more : (p q : Option Reg → Bool) (at : Option Reg) → ((x : Option Reg) → same_place at x ≡ false → q x ≡ p x) →
     p at ≡ false → q at ≡ true → total q ≡ 1 + total p
 unfolding total
-more p q at others off on =
-    more-in p q at others off on (with_protect registers) ∙ ap (λ (n : ℕ). n + tally p (with_protect registers)) (once at)
+one_place_more p q at others off on =
+    more-in p q at others off on (with_protect registers) ∙ ap (λ (n : ℕ). n + tally p (with_protect registers)) (each_place_is_once at)
 
 -- no more pass than another test
 pub below-in : (p q : Option Reg → Bool) → ((x : Option Reg) → q x ≡ true → p x ≡ true) → (xs : List (Option Reg)) → tally q xs ≤ tally p xs

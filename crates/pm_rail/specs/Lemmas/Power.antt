@@ -18,7 +18,7 @@ use Rattle.pm_rail.specs.declared.course.Course.{Course}
 use Rattle.pm_rail.specs.declared.next.Next.{Next}
 use Rattle.pm_rail.specs.declared.next.Next.TheVariants.{Job, Ended}
 use Rattle.pm_rail.specs.Course.{is_operation_known, order_by, order_next, says}
-use Rattle.pm_rail.specs.Lemmas.Says.{Said, asks-due, none-reached, off-job, off-reached, said, taken}
+use Rattle.pm_rail.specs.Lemmas.Says.{Said, asks-due, none-reached, off-job, off-reached, says_is_said, taken}
 use Rattle.pm_rail.specs.Lemmas.Says.{says-busy, says-differs, says-due, says-missing, says-off, says-order}
 
 -- a job that it names is one of its survey, or the order of OPERATION
@@ -58,7 +58,7 @@ module _ (part : PartRegisters) (limits : OutputLimits) (s : Summary) (course : 
         go false false surveyed k v e = cc
 
   pub power-job : (job : Asked) → says part limits s course ≡ Job job → NamesPower part s course byte job
-  power-job job is = go (said part limits s course) is where
+  power-job job is = go (says_is_said part limits s course) is where
     go : {n : Next} → Said part limits s course n → n ≡ Job job → NamesPower part s course byte job
     go (says-busy b) e = cc
     go (says-differs d t) e = cc
@@ -81,7 +81,7 @@ module _ (part : PartRegisters) (limits : OutputLimits) (s : Summary) (course : 
   -- by its own rule
   pub power-reached : says part limits s course ≡ Ended Reached → (course.done ≡ true)
       ⊎ ((is_operation_known s course.survey.output byte ≡ true) × (is_surveyed part course.survey s ≡ true))
-  power-reached is = go (said part limits s course) is where
+  power-reached is = go (says_is_said part limits s course) is where
     go : {n : Next} → Said part limits s course n → n ≡ Ended Reached → (course.done ≡ true)
         ⊎ ((is_operation_known s course.survey.output byte ≡ true) × (is_surveyed part course.survey s ≡ true))
     go (says-busy b) e = cc

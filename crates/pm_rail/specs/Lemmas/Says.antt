@@ -30,7 +30,7 @@ use Rattle.pm_rail.specs.Lemmas.Known.{IsPlanned, all-off, is-planned}
 use Rattle.pm_rail.specs.Lemmas.Steps.{first-of}
 use Rattle.pm_rail.specs.Orders.{is_unknown, plan_of, unknown_fault}
 use Rattle.pm_rail.specs.Registers.{Held, Wants, wants_of}
-use Rattle.pm_rail.specs.Survey.{due_by, due_in, due_job, ended, is_stuck, is_stuck_by, is_surveyed, is_unread, is_unsure}
+use Rattle.pm_rail.specs.Survey.{due_by, survey_due_in, due_job, ended, is_stuck, is_stuck_by, is_surveyed, is_unread, is_unsure}
 use Rattle.pm_rail.specs.Survey.{next_job, wanted_in}
 use Rattle.pm_rail.specs.declared.apply_end.ApplyEnd.TheVariants.{Reached, Stopped}
 use Rattle.pm_rail.specs.declared.apply_end.StopCause.TheVariants.{Refused, Differs, Spent}
@@ -39,7 +39,7 @@ use Rattle.pm_rail.specs.declared.course.Differing.{Differing}
 use Rattle.pm_rail.specs.declared.next.Next.{Next}
 use Rattle.pm_rail.specs.declared.next.Next.TheVariants.{Job, Ended}
 use Rattle.pm_rail.specs.Course.{after_by, differing, going, is_carried_out, is_last, naming, next_by, once_more, order_by, order_next}
-use Rattle.pm_rail.specs.Course.{going_to, ordering, reading, reading_for, renewed, says, taking, told_of, turning_off}
+use Rattle.pm_rail.specs.Course.{going_to, ordering, survey_or_order, reading_for, renewed, says, taking, told_of, turning_off}
 use Rattle.pm_rail.specs.Orders.{missing_fault}
 use Rattle.pm_table.specs.declared.reg.Reg.TheVariants.{Operation}
 use Rattle.pm_table.specs.Operation.{has_on}
@@ -90,7 +90,7 @@ asks-so P part v s learn check protect job is = go (v.left == 0) is where
       rule (is_some v.plan && is_none (known_at cells Protect)) (Check Protect) ∷
       []
 
-  all : (cells : Cells) (held : Held) (j : Asked) → due_in part v cells held wants ≡ Some j → P j
+  all : (cells : Cells) (held : Held) (j : Asked) → survey_due_in part v cells held wants ≡ Some j → P j
   all cells held j e = first-so P (listed cells held) (
     (λ one named. rule-so P (not v.learned) (Learn v.output) one learn named),
     (
@@ -167,10 +167,10 @@ pub data Said (part : PartRegisters) (limits : OutputLimits) (s : Summary) (cour
   says-order : (order : Result (Option PlanOrder) PlanFault) → is_busy s ≡ false → due_job part course.survey s ≡ None →
       order_next part limits s course ≡ order → Said part limits s course (ordering course order)
 
-pub said : (part : PartRegisters) (limits : OutputLimits) (s : Summary) (course : Course) →
+pub says_is_said : (part : PartRegisters) (limits : OutputLimits) (s : Summary) (course : Course) →
     Said part limits s course (says part limits s course)
-said part limits s course = go (is_busy s) refl where
-  asks : (o : Option Asked) → is_busy s ≡ false → due_job part course.survey s ≡ o → Said part limits s course (reading part limits s course o)
+says_is_said part limits s course = go (is_busy s) refl where
+  asks : (o : Option Asked) → is_busy s ≡ false → due_job part course.survey s ≡ o → Said part limits s course (survey_or_order part limits s course o)
   asks (Some job) idle e = says-due job idle e
   asks None idle e = says-order (order_next part limits s course) idle e refl
 
@@ -179,7 +179,7 @@ said part limits s course = go (is_busy s) refl where
   has None idle = asks (due_job part course.survey s) idle refl
 
   on : (b : Bool) (byte : ℕ) → is_busy s ≡ false → course.byte ≡ Some byte → Said part limits s course
-      (if b then reading part limits s course (due_job part course.survey s) else turning_off course byte)
+      (if b then survey_or_order part limits s course (due_job part course.survey s) else turning_off course byte)
   on true byte idle e = asks (due_job part course.survey s) idle refl
   on false byte idle e = says-off byte idle e
 
@@ -274,7 +274,7 @@ module _ (part : PartRegisters) (limits : OutputLimits) (s : Summary) (course : 
 
   -- what a job that is named comes from
   pub says-job : (job : Asked) → says part limits s course ≡ Job job → (is_busy s ≡ false) × Names part limits s course job
-  says-job job is = go (said part limits s course) is where
+  says-job job is = go (says_is_said part limits s course) is where
     go : {n : Next} → Said part limits s course n → n ≡ Job job → (is_busy s ≡ false) × Names part limits s course job
     go (says-busy b) e = cc
     go (says-differs d t) e = cc
@@ -297,7 +297,7 @@ module _ (part : PartRegisters) (limits : OutputLimits) (s : Summary) (course : 
   -- each job is one of the survey if nothing is wanted
   pub says-read : course.survey.plan ≡ None → (job : Asked) → says part limits s course ≡ Job job →
       next_job part course.survey s ≡ Some job
-  says-read plan job is = go (said part limits s course) is where
+  says-read plan job is = go (says_is_said part limits s course) is where
     go : {n : Next} → Said part limits s course n → n ≡ Job job → next_job part course.survey s ≡ Some job
     go (says-busy b) e = cc
     go (says-differs d t) e = cc
@@ -317,7 +317,7 @@ module _ (part : PartRegisters) (limits : OutputLimits) (s : Summary) (course : 
   pub says-reached : says part limits s course ≡ Ended Reached → (is_surveyed part course.survey s ≡ true)
       × (is_none course.survey.plan ≡ false →
       plan_of part s limits course.survey.output (wants_of (wanted_in course.survey.plan)) ≡ Ok None)
-  says-reached is = go (said part limits s course) is where
+  says-reached is = go (says_is_said part limits s course) is where
     go : {n : Next} → Said part limits s course n → n ≡ Ended Reached → (is_surveyed part course.survey s ≡ true)
         × (is_none course.survey.plan ≡ false →
         plan_of part s limits course.survey.output (wants_of (wanted_in course.survey.plan)) ≡ Ok None)
@@ -393,7 +393,7 @@ pub named-so : (P : Asked → Type 0) (part : PartRegisters) (limits : OutputLim
     ((j : Asked) → next_job part course.survey s ≡ Some j → P j) →
     ((order : PlanOrder) → P (Order (Out course.survey.output order.register) order.word)) →
     (job : Asked) → says part limits s course ≡ Job job → (is_busy s ≡ false) × P job
-named-so P part limits s course asked order job is = go (said part limits s course) is where
+named-so P part limits s course asked order job is = go (says_is_said part limits s course) is where
   go : {n : Next} → Said part limits s course n → n ≡ Job job → (is_busy s ≡ false) × P job
   go (says-busy b) e = cc
   go (says-differs d t) e = cc

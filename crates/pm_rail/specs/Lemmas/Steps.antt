@@ -13,20 +13,21 @@ use Rattle.pm_table.specs.Operation.{selected_register}
 use Rattle.pm_table.specs.Rules.{first, rule}
 use Rattle.pm_model.specs.Commanded.{Scale, limited}
 use Rattle.pm_limits.specs.Lemmas.Selected.{each-selected}
-use Rattle.pm_rail.specs.Laws.{HasDens, IsStep}
-use Rattle.pm_rail.specs.Plan.{after, commands_by, goal_of, is_cut_by, is_due, max_first, max_rises, min_falls, min_first, next_register}
-use Rattle.pm_rail.specs.Plan.{put, stepped}
+use Rattle.pm_rail.specs.Laws.{ScaleHasDens, IsStep}
+use Rattle.pm_rail.specs.Plan.{words_after_orders, commands_by, goal_of, is_cut_by, is_due, max_first, max_rises, min_falls, min_first}
+use Rattle.pm_rail.specs.Plan.{next_register}
+use Rattle.pm_rail.specs.Plan.{put, words_after_next_order}
 use Rattle.pm_rail.specs.Registers.{Held, Wants}
 use Rattle.pm_rail.specs.Lemmas.Limits.{Moves, at-goal, greatest-behind, lowered, lowered-behind, raised, written}
 
 -- numbers whose test says so are one
-pub same : (x y : ℕ) → not (x == y) ≡ false → x ≡ y
-same x y h = grind (arith, nat_tests)
+pub equal_by_test : (x y : ℕ) → not (x == y) ≡ false → x ≡ y
+equal_by_test x y h = grind (arith, nat_tests)
 
 -- neither of two tests holds
-pub left : (a b : Bool) → (a || b) ≡ false → a ≡ false
-left true b h = h
-left false b h = refl
+pub left_test_fails : (a b : Bool) → (a || b) ≡ false → a ≡ false
+left_test_fails true b h = h
+left_test_fails false b h = refl
 
 pub right : (a b : Bool) → (a || b) ≡ false → b ≡ false
 right true b h = cc
@@ -63,17 +64,17 @@ goal-stays held wants None = refl
 goal-stays held wants (Some q) = fun_ext (λ (r : Reg). goal-put held wants q r)
 
 pub goal-after : (value : Scale) (held : Held) (wants : Wants) (n : ℕ) →
-    goal_of (after value wants held n) wants ≡ goal_of held wants
+    goal_of (words_after_orders value wants held n) wants ≡ goal_of held wants
 goal-after value held wants zero = refl
 goal-after value held wants (suc n) =
-    goal-stays (after value wants held n) wants (next_register value (after value wants held n) wants)
+    goal-stays (words_after_orders value wants held n) wants (next_register value (words_after_orders value wants held n) wants)
     ∙ goal-after value held wants n
 
 -- nothing is wanted of OPERATION
 pub goal-operation : (held : Held) (wants : Wants) → wants Operation ≡ None → goal_of held wants Operation ≡ held Operation
 goal-operation held wants none = ap (λ (o : Option ℕ). unwrap_or o (held Operation)) none
 
-module _ (value : Scale) (held : Held) (wants : Wants) (dens : HasDens value) (none : wants Operation ≡ None)
+module _ (value : Scale) (held : Held) (wants : Wants) (dens : ScaleHasDens value) (none : wants Operation ≡ None)
     (uncut : is_cut_by value (goal_of held wants) ≡ false) where
   chosen : Reg
   chosen = selected_register (held Operation)
@@ -105,7 +106,7 @@ module _ (value : Scale) (held : Held) (wants : Wants) (dens : HasDens value) (n
     s'_den = dens wanted;
     l'_den = dens (goal_of held wants VoutMin);
     g'_den = dens (goal_of held wants VoutMax);
-    below = left (is_above (value wanted) (value (goal_of held wants VoutMax))) _ outside;
+    below = left_test_fails (is_above (value wanted) (value (goal_of held wants VoutMax))) _ outside;
     above = right (is_above (value wanted) (value (goal_of held wants VoutMax))) _ outside;
   }
 
@@ -151,9 +152,9 @@ module _ (value : Scale) (held : Held) (wants : Wants) (dens : HasDens value) (n
       is_due held wants MarginLow ≡ false → held chosen ≡ wanted
   unfolding wanted chosen
   arrived c h l = each-selected (λ r. held r ≡ goal_of held wants r)
-      (sym (same (goal_of held wants VoutCommand) (held VoutCommand) c))
-      (sym (same (goal_of held wants MarginHigh) (held MarginHigh) h))
-      (sym (same (goal_of held wants MarginLow) (held MarginLow) l)) (held Operation)
+      (sym (equal_by_test (goal_of held wants VoutCommand) (held VoutCommand) c))
+      (sym (equal_by_test (goal_of held wants MarginHigh) (held MarginHigh) h))
+      (sym (equal_by_test (goal_of held wants MarginLow) (held MarginLow) l)) (held Operation)
 
   Steps : Ratio → Type 0
   Steps new = IsStep (commands_by value (goal_of held wants)) (commands_by value held) new
@@ -220,10 +221,10 @@ module _ (value : Scale) (held : Held) (wants : Wants) (dens : HasDens value) (n
   min-last at m =
       inr (ap (λ (w : ℕ). limited (value w) (value (goal_of held wants VoutMin)) (value (held VoutMax))) (min-beside ∙ at)
       ∙ ap (λ (w : ℕ). limited (value wanted) (value (goal_of held wants VoutMin)) (value w))
-      (sym (same (goal_of held wants VoutMax) (held VoutMax) m))
+      (sym (equal_by_test (goal_of held wants VoutMax) (held VoutMax) m))
       ∙ at-goal moves ∙ sym end)
 
-  step : Steps (commands_by value (stepped value wants held))
+  step : Steps (commands_by value (words_after_next_order value wants held))
   unfolding Steps chosen
   step = go (max_first value held wants) (min_first value held wants) (is_due held wants VoutCommand)
       (is_due held wants MarginHigh) (is_due held wants MarginLow) (min_falls value held wants)
@@ -245,11 +246,11 @@ module _ (value : Scale) (held : Held) (wants : Wants) (dens : HasDens value) (n
       go false false false false false false false true a' b' c' d' e' f' g' = min-last (arrived c' d' e') g'
       go false false false false false false false false a' b' c' d' e' f' g' = inl refl
 
-pub one : (value : Scale) (held : Held) (wants : Wants) → HasDens value → wants Operation ≡ None →
+pub uncut_goal_is_step : (value : Scale) (held : Held) (wants : Wants) → ScaleHasDens value → wants Operation ≡ None →
     is_cut_by value (goal_of held wants) ≡ false →
-    IsStep (commands_by value (goal_of held wants)) (commands_by value held) (commands_by value (stepped value wants held))
+    IsStep (commands_by value (goal_of held wants)) (commands_by value held) (commands_by value (words_after_next_order value wants held))
 unfolding Steps
-one value held wants dens none uncut = step value held wants dens none uncut
+uncut_goal_is_step value held wants dens none uncut = step value held wants dens none uncut
 
 -- two steps are one
 pub chain : (goal a b c : Ratio) → IsStep goal a b → IsStep goal b c → IsStep goal a c
@@ -257,28 +258,28 @@ chain goal a b c ab (inr x) = inr x
 chain goal a b c (inl y) (inl x) = inl (x ∙ y)
 chain goal a b c (inr y) (inl x) = inr (x ∙ y)
 
-from-any : (value : Scale) (held : Held) (wants : Wants) (more : ℕ) → HasDens value → wants Operation ≡ None →
+from-any : (value : Scale) (held : Held) (wants : Wants) (more : ℕ) → ScaleHasDens value → wants Operation ≡ None →
     is_cut_by value (goal_of held wants) ≡ false →
-    IsStep (commands_by value (goal_of held wants)) (commands_by value held) (commands_by value (after value wants held more))
+    IsStep (commands_by value (goal_of held wants)) (commands_by value held) (commands_by value (words_after_orders value wants held more))
 from-any value held wants zero dens none uncut = inl refl
 from-any value held wants (suc more) dens none uncut =
-    let here = after value wants held more in
+    let here = words_after_orders value wants held more in
     let goes = goal-after value held wants more in
-    let newest = one value here wants dens none (ap (λ (h : Held). is_cut_by value h) goes ∙ uncut) in
+    let newest = uncut_goal_is_step value here wants dens none (ap (λ (h : Held). is_cut_by value h) goes ∙ uncut) in
     chain (commands_by value (goal_of held wants)) (commands_by value held) (commands_by value here)
-    (commands_by value (stepped value wants here)) (from-any value held wants more dens none uncut)
+    (commands_by value (words_after_next_order value wants here)) (from-any value held wants more dens none uncut)
     (elim newest [
       | inl x ↦ inl x
       | inr x ↦ inr (x ∙ ap (λ (h : Held). commands_by value h) goes)
     ])
 
-pub any : (value : Scale) (held : Held) (wants : Wants) (n more : ℕ) → HasDens value → wants Operation ≡ None →
+pub any : (value : Scale) (held : Held) (wants : Wants) (n more : ℕ) → ScaleHasDens value → wants Operation ≡ None →
     is_cut_by value (goal_of held wants) ≡ false →
-    IsStep (commands_by value (goal_of held wants)) (commands_by value (after value wants held n))
-    (commands_by value (after value wants (after value wants held n) more))
+    IsStep (commands_by value (goal_of held wants)) (commands_by value (words_after_orders value wants held n))
+    (commands_by value (words_after_orders value wants (words_after_orders value wants held n) more))
 any value held wants n more dens none uncut =
     let goes = goal-after value held wants n in
-    elim (from-any value (after value wants held n) wants more dens none (ap (λ (h : Held). is_cut_by value h) goes ∙ uncut)) [
+    elim (from-any value (words_after_orders value wants held n) wants more dens none (ap (λ (h : Held). is_cut_by value h) goes ∙ uncut)) [
       | inl x ↦ inl x
       | inr x ↦ inr (x ∙ ap (λ (h : Held). commands_by value h) goes)
     ]

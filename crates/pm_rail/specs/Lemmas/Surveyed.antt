@@ -24,7 +24,8 @@ use Rattle.pm_rail.specs.declared.survey.Survey.{Survey}
 use Rattle.pm_rail.specs.Known.{Cells, cells_of, known_at, known_of, known_word}
 use Rattle.pm_rail.specs.Orders.{is_needed}
 use Rattle.pm_rail.specs.Registers.{Held, Wants, wants_of}
-use Rattle.pm_rail.specs.Survey.{asking, due_by, due_in, due_job, has_read, is_lacking, is_stuck, is_stuck_by, is_stuck_in, is_surveyed}
+use Rattle.pm_rail.specs.Survey.{asking, due_by, survey_due_in, due_job, has_read, is_lacking, is_stuck, is_stuck_by, is_stuck_in}
+use Rattle.pm_rail.specs.Survey.{is_surveyed}
 use Rattle.pm_rail.specs.Survey.{is_unread, is_unsure, next_job, wanted_in}
 use Rattle.pm_rail.specs.Lemmas.Known.{all-off, not-second}
 
@@ -63,7 +64,7 @@ none-lacking test none register =
 
 -- what is due, where nothing is
 module _ (part : PartRegisters) (v : Survey) (cells : Cells) (held : Held) (wants : Wants)
-    (free : due_in part v cells held wants ≡ None) where
+    (free : survey_due_in part v cells held wants ≡ None) where
   learns : Option Job
   learns = rule (not v.learned) (Learn v.output)
 
@@ -154,9 +155,10 @@ protection part v s is plan = go (format_at s v.output) (ended-free part v s is)
       let cells = cells_of part shape s in
       protection-in part v cells (known_of cells v.output) (wants_of (wanted_in v.plan)) free plan
 
-pub asks : (part : PartRegisters) (v : Survey) (s : Summary) → is_surveyed part v s ≡ false → is_stuck part v s ≡ false → 0 < v.left →
+pub asking_takes_a_try : (part : PartRegisters) (v : Survey) (s : Summary) → is_surveyed part v s ≡ false → is_stuck part v s ≡ false →
+    0 < v.left →
     (is_some (next_job part v s) ≡ true) × ((asking v (next_job part v s)).left + 1 ≡ v.left)
-asks part v s busy unstuck left =
+asking_takes_a_try part v s busy unstuck left =
     go (v.left == 0) refl (due_job part v s) (due (is_none (due_job part v s)) (is_stuck part v s) busy unstuck)
   where
     due : (none stuck : Bool) → (none && not stuck) ≡ false → stuck ≡ false → none ≡ false
@@ -171,16 +173,16 @@ asks part v s busy unstuck left =
     go false e (Some job) some = (refl, omega arith)
 
 -- a part with every register lacks none
-pub whole : (v : Survey) (s : Summary) → is_stuck all_registers v s ≡ false
-whole v s = go (format_at s v.output) where
+pub whole_part_lacks_none : (v : Survey) (s : Summary) → is_stuck all_registers v s ≡ false
+whole_part_lacks_none v s = go (format_at s v.output) where
   go : (format : Option Shape) → is_stuck_by all_registers v s format ≡ false
   go None = refl
   go (Some shape) = refl
 
 -- what is found passes the test
-pub found : (test : Reg → Bool) (listed : List Reg) (register : Reg) → find test listed ≡ Some register → test register ≡ true
-found test [] register is = cc
-found test (one ∷ rest) register is = go (found test rest register) (test one) refl is where
+pub found_passes_test : (test : Reg → Bool) (listed : List Reg) (register : Reg) → find test listed ≡ Some register → test register ≡ true
+found_passes_test test [] register is = cc
+found_passes_test test (one ∷ rest) register is = go (found_passes_test test rest register) (test one) refl is where
   go : (find test rest ≡ Some register → test register ≡ true) → (b : Bool) → test one ≡ b →
       (if b then Some one else find test rest) ≡ Some register → test register ≡ true
   go later true e same =
@@ -189,7 +191,7 @@ found test (one ∷ rest) register is = go (found test rest register) (test one)
 
 -- a survey asks for no register that the part doesn't have
 asked-there : (part : PartRegisters) (v : Survey) (cells : Cells) (held : Held) (wants : Wants) (output : ℕ) (register : Reg) →
-    due_in part v cells held wants ≡ Some (Check (Out output register)) → has_register part register ≡ true
+    survey_due_in part v cells held wants ≡ Some (Check (Out output register)) → has_register part register ≡ true
 asked-there part v cells held wants output register is =
     go (not v.learned) (find (is_unread part v.read held wants) registers) (is_some v.plan && not v.read.protect)
     (find (is_unsure part cells v.output held wants) registers) (is_some v.plan && is_none (known_at cells Protect)) refl refl is
@@ -203,12 +205,12 @@ asked-there part v cells held wants output register is =
     go false (Some r) p n q eu en h =
         let same : r ≡ register = cc in
         subst (λ (x : Reg). has_register part x ≡ true) same
-        (and_parts (has_register part r) _ (found (is_unread part v.read held wants) registers r eu)).0
+        (and_parts (has_register part r) _ (found_passes_test (is_unread part v.read held wants) registers r eu)).0
     go false None true n q eu en h = cc
     go false None false (Some r) q eu en h =
         let same : r ≡ register = cc in
         subst (λ (x : Reg). has_register part x ≡ true) same
-        (and_parts (has_register part r) _ (found (is_unsure part cells v.output held wants) registers r en)).0
+        (and_parts (has_register part r) _ (found_passes_test (is_unsure part cells v.output held wants) registers r en)).0
     go false None false None true eu en h = cc
     go false None false None false eu en h = cc
 

@@ -2,7 +2,7 @@
 ghost use Rattle.std.specs.Prelude.{◌≡◌, ◌<◌, ◌++◌, OnOk, codes, string_bytes};
 ghost use Rattle.pm_host.specs.Summary.{possible_at, standing_at};
 ghost use Rattle.pm_table.specs.Cell.{IsCell};
-ghost use Rattle.pm_text.specs.Report.{cell_text, possible_text, register_line, said_text, setting_line, spaced_words, standing_text};
+ghost use Rattle.pm_text.specs.Report.{cell_word_text, possible_text, register_line, cell_said_text, setting_line, spaced_words, standing_text};
 
 use crate::form::Form;
 use pm_host::{Possible, Standing};
@@ -53,7 +53,7 @@ pub(crate) fn push_setting(
 fn push_said(text: &mut String, form: Form, world: &World, cell: Cell) -> Result<(), AllocError>
     requires { IsCell world.now.device.config.count cell }
     ensures { OnOk result (string_bytes text.new ≡ string_bytes text.old
-        ++ said_text form cell (standing_at world.now.host cell) (possible_at world.now.host cell)) }
+        ++ cell_said_text form cell (standing_at world.now.host cell) (possible_at world.now.host cell)) }
 {
     let standing = world.host().standing(cell);
     push_standing(text, cell, standing)?;
@@ -106,7 +106,7 @@ fn push_words(text: &mut String, cell: Cell, words: &[u16]) -> Result<(), AllocE
 #[tactic(auto, using(pm_lines::specs::Lemmas::Joins::joins))]
 fn push_spaced(text: &mut String, cell: Cell, word: u16) -> Result<(), AllocError>
     ensures { OnOk result (string_bytes text.new
-        ≡ string_bytes text.old ++ (codes " " ++ cell_text cell word)) }
+        ≡ string_bytes text.old ++ (codes " " ++ cell_word_text cell word)) }
 {
     text.push_str(" ")?;
     push_cell_word(text, cell, word)
@@ -115,7 +115,7 @@ fn push_spaced(text: &mut String, cell: Cell, word: u16) -> Result<(), AllocErro
 // A cell's word with its digits.
 fn push_cell_word(text: &mut String, cell: Cell, word: u16) -> Result<(), AllocError>
     ensures { OnOk result (string_bytes text.new
-        ≡ string_bytes text.old ++ cell_text cell word) }
+        ≡ string_bytes text.old ++ cell_word_text cell word) }
 {
     if cell.is_voltage() {
         push_hex_word(text, word)

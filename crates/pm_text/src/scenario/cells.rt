@@ -27,7 +27,7 @@ pub fn cell(form: Form, fields: &mut Fields<'_>) -> Result<Cell, ScenarioFault>
 
 /// The name of an output's register: otherwise X1.
 pub(crate) fn register(form: Form, fields: &mut Fields<'_>) -> Result<Reg, ScenarioFault>
-    ensures { Reads result fields.new (field Syntax (kinds.register_named form) fields.old) }
+    ensures { Reads result fields.new (field Syntax (kinds.register_named_in_form form) fields.old) }
 {
     let name = fields.word()?;
     match named_among(form.registers(), name) {

@@ -131,12 +131,12 @@ fn coefficients(fields: &mut Fields<'_>) -> Result<Coefficients, ScenarioFault>
 }
 
 // The outputs, each a line, up to the line `begin`.
-#[tactic(auto, unfolding(crate::specs::ScenarioText::outputs))]
+#[tactic(auto, unfolding(crate::specs::ScenarioText::output_starts))]
 fn outputs(form: Form, c: Coefficients, rows: &mut Rows<'_>) -> Result<Starts, ScenarioFault>
     ensures { MatchResult result
         (λ starts. (given : List Start) × (starts ≡ spec.starts_of given)
-        × (spec.outputs form c rows.old ≡ Ok (given, rows.new)))
-        (λ fault. spec.outputs form c rows.old ≡ Err fault) }
+        × (spec.output_starts form c rows.old ≡ Ok (given, rows.new)))
+        (λ fault. spec.output_starts form c rows.old ≡ Err fault) }
 {
     let mut starts = Starts::new();
     'outputs: while let Some(start) = output_line(form, c, rows.row()?)? {
@@ -152,7 +152,7 @@ fn output_line(
     line: Line<'_>,
 ) -> Result<Option<OutputStart>, ScenarioFault>
     ensures { result
-        ≡ line_as (spec.output_line form c) (line.entry.number, line.entry.text.now) }
+        ≡ line_as (spec.output_start_line form c) (line.entry.number, line.entry.text.now) }
 {
     let mut fields = Fields::new(line);
     let start = output_or_begin(form, c, &mut fields)?;
@@ -161,13 +161,13 @@ fn output_line(
 }
 
 // `output ..`, or `begin`.
-#[tactic(auto, unfolding(crate::specs::ScenarioText::output_line))]
+#[tactic(auto, unfolding(crate::specs::ScenarioText::output_start_line))]
 fn output_or_begin(
     form: Form,
     c: Coefficients,
     fields: &mut Fields<'_>,
 ) -> Result<Option<OutputStart>, ScenarioFault>
-    ensures { Reads result fields.new (spec.output_line form c fields.old) }
+    ensures { Reads result fields.new (spec.output_start_line form c fields.old) }
 {
     let name = fields.word()?;
     if name == b"output".as_slice() {
@@ -203,7 +203,7 @@ fn start_words(
     words: &mut [u16; Reg::COUNT],
 ) -> Result<(), ScenarioFault>
     ensures { ReadsTo result words.new fields.new
-        (spec.start_words registers.now words.old fields.old) }
+        (spec.start_words_field registers.now words.old fields.old) }
 {
     for register in registers {
         words[register.number()] = cell_word(fields, Cell::Out(0, *register))?;

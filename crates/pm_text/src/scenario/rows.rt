@@ -1,6 +1,6 @@
 //! The lines of a scenario, one after another.
 ghost use Rattle.std.specs.Prelude.{◌≡◌, ◌<◌, ◌≤◌, ◌+◌, ◌^◌, Ok, Err, [], ◌∷◌, length, MatchOption, MatchResult};
-ghost use Rattle.pm_text.specs.Readers.{row as next_row};
+ghost use Rattle.pm_text.specs.Readers.{next_row};
 ghost use Rattle.pm_text.specs.ScenarioText.{rest_of};
 ghost use Rattle.pm_text.specs.declared.scenario.fault.ScenarioFault.TheVariants.{Syntax};
 
@@ -50,7 +50,7 @@ impl<'a> Rows<'a> {
     }
 
     /// The next line. If there is none, X1 with the number after the last.
-    #[tactic(auto, unfolding(crate::specs::Readers::row))]
+    #[tactic(auto, unfolding(crate::specs::Readers::next_row))]
     pub(crate) fn row(&mut self) -> Result<Line<'a>, ScenarioFault>
         ensures read { MatchResult result
             (λ line. next_row self.old ≡ Ok ((line.number, line.text.now), self.new))

@@ -56,18 +56,9 @@ fn ends_at_read(
     kind: ErrorKind,
 ) {
     let (engine, input, text) = worked;
-    let read = Pieces {
-        fails_at,
-        kind,
-        ..in_pieces(input.as_bytes(), piece)
-    };
+    let read = with! { Pieces, in_pieces(input.as_bytes(), piece); fails_at, kind };
     let ended = engine.over(rt.alloc(), read, blank_paper(rt.alloc(), piece));
-    equal(
-        rt,
-        &ended.end,
-        &Err(TextFault::Read),
-        &(engine, fails_at, piece),
-    );
+    compare! { rt, (engine, fails_at, piece); ended.end => Err(TextFault::Read) }
     is_true(rt, ended.read_failed && !ended.write_failed, &1);
     equal(rt, &ended.read.calls, &fails_at, &(engine, piece));
     let lines = lines_read(engine, input, piece, fails_at.saturating_sub(1));
@@ -107,18 +98,9 @@ fn ends_at_write(
     failure: Failure,
 ) {
     let (engine, input, text) = worked;
-    let written = Paper {
-        fails_at,
-        failure,
-        ..blank_paper(rt.alloc(), piece)
-    };
+    let written = with! { Paper, blank_paper(rt.alloc(), piece); fails_at, failure };
     let ended = engine.over(rt.alloc(), in_pieces(input.as_bytes(), piece), written);
-    equal(
-        rt,
-        &ended.end,
-        &Err(TextFault::Write),
-        &(engine, fails_at, piece),
-    );
+    compare! { rt, (engine, fails_at, piece); ended.end => Err(TextFault::Write) }
     is_true(rt, ended.write_failed && !ended.read_failed, &1);
     let written = ended.written;
     equal(rt, &written.calls, &fails_at, &(engine, piece, failure));
@@ -239,16 +221,6 @@ fn is_endless(
     are_clears(rt, written.taken.as_slice(), lines)
 }
 
-#[test]
-fn a_text_without_an_end_is_refused(rt: HostRuntime) -> Result<(), Fail> {
-    for engine in [Engine::Replay, Engine::Decode, Engine::Hear] {
-        is_endless(&rt, engine, b"#", 0)?;
-    }
-    is_endless(&rt, Engine::Replay, b"B0 03 46\n", 0)?;
-    is_endless(&rt, Engine::Decode, b"B0 03 46\n", 116_508)?;
-    is_endless(&rt, Engine::Hear, b"B0 03 46\n", 0)
-}
-
 // `decode` writes this by so many calls, of what stands before 600 spaces.
 fn is_decoded_by(
     rt: &(impl Abort + AllocGlobal),
@@ -270,10 +242,20 @@ fn is_decoded_by(
 }
 
 #[test]
-fn a_trace_is_read_by_512_bytes_and_written_where_a_line_ends(rt: HostRuntime) -> Result<(), Fail> {
+fn a_text_without_an_end_is_refused_and_a_trace_is_read_by_512_bytes(
+    rt: HostRuntime,
+) -> Result<(), Fail> {
+    for engine in [Engine::Replay, Engine::Decode, Engine::Hear] {
+        is_endless(&rt, engine, b"#", 0)?;
+    }
+    is_endless(&rt, Engine::Replay, b"B0 03 46\n", 0)?;
+    is_endless(&rt, Engine::Decode, b"B0 03 46\n", 116_508)?;
+    is_endless(&rt, Engine::Hear, b"B0 03 46\n", 0)?;
+    // A trace is read by 512 bytes and written where a line ends.
     let none = "lines 0 accepted 0 faults 0 bad 0\n";
     let one = "1 58 CLEAR_FAULTS send\ncount CLEAR_FAULTS 1\nlines 1 accepted 1 faults 0 bad 0\n";
     is_decoded_by(&rt, b"# none\n", none, 1)?;
     is_decoded_by(&rt, b"B0 03 46", one, 1)?;
-    is_decoded_by(&rt, b"B0 03 46\n", one, 2)
+    is_decoded_by(&rt, b"B0 03 46\n", one, 2)?;
+    Ok(())
 }

@@ -26,59 +26,25 @@ fn is_told(
     Ok(())
 }
 
+#[rattlefmt::skip]
 static TEXT_FAULTS: [(TextFault, &str, Option<u64>, &str); 12] = [
-    (
-        TextFault::Syntax(2),
-        "X1 Syntax",
-        Some(2),
-        "X1 Syntax line 2",
-    ),
-    (
-        TextFault::BadHex(3),
-        "X2 BadHex",
-        Some(3),
-        "X2 BadHex line 3",
-    ),
+    (TextFault::Syntax(2), "X1 Syntax", Some(2), "X1 Syntax line 2"),
+    (TextFault::BadHex(3), "X2 BadHex", Some(3), "X2 BadHex line 3"),
     (TextFault::TooLong, "X3 TooLong", None, "X3 TooLong"),
     (TextFault::Read, "X4 Read", None, "X4 Read"),
     (TextFault::Write, "X5 Write", None, "X5 Write"),
     (TextFault::Memory, "X6 Memory", None, "X6 Memory"),
-    (
-        TextFault::Setup(SetupFault::Device(ConfigFault::OutputCount)),
-        "X7 Setup",
-        None,
-        "X7 Setup V1 OutputCount",
-    ),
-    (
-        TextFault::Setup(SetupFault::Device(ConfigFault::BadStart(Cell::Out(0, Reg::Operation)))),
-        "X7 Setup",
-        None,
-        "X7 Setup V2 BadStart 0 OPERATION",
-    ),
-    (
-        TextFault::Setup(SetupFault::Device(ConfigFault::Address)),
-        "X7 Setup",
-        None,
-        "X7 Setup V3 Address",
-    ),
-    (
-        TextFault::Setup(SetupFault::Device(ConfigFault::BadMode(7, TableFault::HalfMode))),
-        "X7 Setup",
-        None,
-        "X7 Setup V4 BadMode 7 C2 HalfMode",
-    ),
-    (
-        TextFault::Setup(SetupFault::Device(ConfigFault::BadCoefficients(NumFault::ZeroSlope))),
-        "X7 Setup",
-        None,
-        "X7 Setup V5 BadCoefficients N1 ZeroSlope",
-    ),
-    (
-        TextFault::Setup(SetupFault::Host(HostFault::Passes)),
-        "X7 Setup",
-        None,
-        "X7 Setup H2 Passes",
-    ),
+    (TextFault::Setup(SetupFault::Device(ConfigFault::OutputCount)), "X7 Setup", None,
+        "X7 Setup V1 OutputCount"),
+    (TextFault::Setup(SetupFault::Device(ConfigFault::BadStart(Cell::Out(0, Reg::Operation)))),
+        "X7 Setup", None, "X7 Setup V2 BadStart 0 OPERATION"),
+    (TextFault::Setup(SetupFault::Device(ConfigFault::Address)), "X7 Setup", None,
+        "X7 Setup V3 Address"),
+    (TextFault::Setup(SetupFault::Device(ConfigFault::BadMode(7, TableFault::HalfMode))),
+        "X7 Setup", None, "X7 Setup V4 BadMode 7 C2 HalfMode"),
+    (TextFault::Setup(SetupFault::Device(ConfigFault::BadCoefficients(NumFault::ZeroSlope))),
+        "X7 Setup", None, "X7 Setup V5 BadCoefficients N1 ZeroSlope"),
+    (TextFault::Setup(SetupFault::Host(HostFault::Passes)), "X7 Setup", None, "X7 Setup H2 Passes"),
 ];
 
 #[test]

@@ -11,7 +11,6 @@ use pm_text::{
 use pm_world::World;
 use std::alloc::Global;
 use std::process::Abort;
-use std::test::Fail;
 
 // An engine writes this text, or lacks memory: then nothing of it, or by `decode` a prefix.
 fn expect_text(rt: &(impl Abort + AllocGlobal), engine: Engine, input: &str, text: &str) {
@@ -143,19 +142,12 @@ fn expect(rt: &impl Abort, found: Result<String, TextFault>, wanted: &str) {
     }
 }
 
+#[rattlefmt::skip]
 static LINES: [(&str, &str); 3] = [
-    (
-        "B0 06 02 00 21 / B1 02 CD 34 B9",
-        "18446744073709551615 58 page 0 VOUT_COMMAND read 34CD",
-    ),
-    (
-        "B0 05 04 01 21 CD 34 5A",
-        "18446744073709551615 58 write F5 WrongPec 7",
-    ),
-    (
-        "B0 30 02 21 00 / B1 05 01 00 00 00 03 6B",
-        "18446744073709551615 58 COEFFICIENTS of 21 side 0 read m 1 b 0 r 3",
-    ),
+    ("B0 06 02 00 21 / B1 02 CD 34 B9", "18446744073709551615 58 page 0 VOUT_COMMAND read 34CD"),
+    ("B0 05 04 01 21 CD 34 5A", "18446744073709551615 58 write F5 WrongPec 7"),
+    ("B0 30 02 21 00 / B1 05 01 00 00 00 03 6B",
+        "18446744073709551615 58 COEFFICIENTS of 21 side 0 read m 1 b 0 r 3"),
 ];
 
 #[test]

@@ -1,7 +1,7 @@
 //! Each call that can answer want of memory, with ample memory at the far end of each of its dimensions:
 //! the codes that are counted, lines, events, outputs, the bytes of a line or of a part, digits, words.
 
-use crate::checks::{equal, is_true};
+use crate::checks::equal;
 use crate::engines::long_text::{Written, expect_lines, is_written};
 use crate::{
     CODES, CODES_SAID, Engine, Engines, FRAME, Long, REPORT, SCENARIO, TAKEN, in_pieces, text_of,
@@ -27,39 +27,17 @@ const OUTPUT_7: &str =
     "output 7 on commanded 4096/4096 1000000 uV\nOPERATION 80 host unknown\nVOUT_COMMAND 1000 host unknown\nVOUT_MAX 4000 host unknown\nVOUT_MARGIN_HIGH 1100 host unknown\nVOUT_MARGIN_LOW 0F00 host unknown\nstatus 00 0000 00\ncml 00\nrestart seen no\njob done\n";
 
 /// Long traces, and their lines.
+#[rattlefmt::skip]
 static LONG_TRACES: [(Long, Written); 4] = [
-    (
-        (["", ""], "/\n", 524_288, ""),
-        (
-            524_289,
-            "1 -- write F1 NotOurs\n",
-            "\n524288 -- write F1 NotOurs\nlines 524288 accepted 0 faults 524288 bad 0\n",
-        ),
-    ),
-    (
-        (["", ""], "B0 03 46\n", 40_000, ""),
-        (
-            40_002,
+    ((["", ""], "/\n", 524_288, ""), (524_289, "1 -- write F1 NotOurs\n",
+            "\n524288 -- write F1 NotOurs\nlines 524288 accepted 0 faults 524288 bad 0\n")),
+    ((["", ""], "B0 03 46\n", 40_000, ""), (40_002,
             "1 58 CLEAR_FAULTS send\n2 58 CLEAR_FAULTS send\n",
-            "\n40000 58 CLEAR_FAULTS send\ncount CLEAR_FAULTS 40000\nlines 40000 accepted 40000 faults 0 bad 0\n",
-        ),
-    ),
-    (
-        (["", ""], "B0\n", 349_525, "/"),
-        (
-            349_527,
-            "1 58 write F2 Short 1\n",
-            "\n349526 -- write F1 NotOurs\nlines 349526 accepted 0 faults 349526 bad 0\n",
-        ),
-    ),
-    (
-        (["", ""], "\n", 1_048_575, "0"),
-        (
-            2,
-            "1048576 X2 BadHex\n",
-            "lines 1 accepted 0 faults 0 bad 1\n",
-        ),
-    ),
+            "\n40000 58 CLEAR_FAULTS send\ncount CLEAR_FAULTS 40000\nlines 40000 accepted 40000 faults 0 bad 0\n")),
+    ((["", ""], "B0\n", 349_525, "/"), (349_527, "1 58 write F2 Short 1\n",
+            "\n349526 -- write F1 NotOurs\nlines 349526 accepted 0 faults 349526 bad 0\n")),
+    ((["", ""], "\n", 1_048_575, "0"),
+        (2, "1048576 X2 BadHex\n", "lines 1 accepted 0 faults 0 bad 1\n")),
 ];
 
 #[test]
@@ -79,31 +57,15 @@ fn fault_of(alloc: Global, text: &[u8]) -> Option<TextFault> {
 }
 
 /// Long scenarios, and their reports.
+#[rattlefmt::skip]
 static LONG_SCENARIOS: [(Long, Written); 5] = [
-    (
-        (["", ""], "\n", 900_000, ONE_EVENT),
-        (12, "ran 1\n", "\njob pending\n"),
-    ),
-    (
-        ([EIGHT, ""], "clear 0\nfinish ack\n", 50_000, ""),
-        (
-            61,
-            "ran 100000\nprotect 00 host unknown\noutput 0 on",
-            OUTPUT_7,
-        ),
-    ),
-    (
-        ([ONE, "order 0 VOUT_COMMAND"], " ", 1_000_000, "34CD"),
-        (12, "ran 1\n", "\njob pending\n"),
-    ),
-    (
-        ([ONE, "volts 0 VOUT_COMMAND -"], "0", 1_000_000, "5"),
-        (12, "stopped 0 S4 Host H7 FormatUnknown\n", "\njob none\n"),
-    ),
-    (
-        ([ONE, "clear 0\ndeliver cut "], "0", 1_000_000, "255"),
-        (12, "ran 2\n", "\njob pending\n"),
-    ),
+    ((["", ""], "\n", 900_000, ONE_EVENT), (12, "ran 1\n", "\njob pending\n")),
+    (([EIGHT, ""], "clear 0\nfinish ack\n", 50_000, ""),
+        (61, "ran 100000\nprotect 00 host unknown\noutput 0 on", OUTPUT_7)),
+    (([ONE, "order 0 VOUT_COMMAND"], " ", 1_000_000, "34CD"), (12, "ran 1\n", "\njob pending\n")),
+    (([ONE, "volts 0 VOUT_COMMAND -"], "0", 1_000_000, "5"),
+        (12, "stopped 0 S4 Host H7 FormatUnknown\n", "\njob none\n")),
+    (([ONE, "clear 0\ndeliver cut "], "0", 1_000_000, "255"), (12, "ran 2\n", "\njob pending\n")),
 ];
 
 #[test]
@@ -201,43 +163,19 @@ fn is_rendered(
 }
 
 // The line, how many bytes its parts have, its number, and what it says.
+#[rattlefmt::skip]
 static LONG_PARTS: [(Long, (usize, Option<usize>), u64, &str); 6] = [
-    (
-        (["B0 03", ""], " ", 1_000_000, "46"),
-        (3, None),
-        u64::MAX,
-        "18446744073709551615 58 CLEAR_FAULTS send",
-    ),
-    (
-        (["B0 30 02 FF FF / B1 05", ""], " 00 80", 2, " 80 AE"),
-        (5, Some(8)),
-        u64::MAX,
-        "18446744073709551615 58 COEFFICIENTS of FF side 255 read m -32768 b -32768 r -128",
-    ),
-    (
-        (["B0", ""], " 05", 299, ""),
-        (300, None),
-        u64::MAX,
-        "18446744073709551615 58 write F3 Long 9",
-    ),
-    (
-        (["B0 20 /", ""], " B1", 300, ""),
-        (2, Some(300)),
-        4_294_967_296,
-        "4294967296 58 read F3 Long 3",
-    ),
-    (
-        (["B0", "0"], "0", 597, "/"),
-        (300, Some(0)),
-        256,
-        "256 58 write F3 Long 2",
-    ),
-    (
-        (["B0 30 02 FF FF / B1 05", ""], " FF", 5, " 47"),
-        (5, Some(8)),
-        1_000_000_000_000,
-        "1000000000000 58 COEFFICIENTS of FF side 255 read m -1 b -1 r -1",
-    ),
+    ((["B0 03", ""], " ", 1_000_000, "46"), (3, None), u64::MAX,
+        "18446744073709551615 58 CLEAR_FAULTS send"),
+    ((["B0 30 02 FF FF / B1 05", ""], " 00 80", 2, " 80 AE"), (5, Some(8)), u64::MAX,
+        "18446744073709551615 58 COEFFICIENTS of FF side 255 read m -32768 b -32768 r -128"),
+    ((["B0", ""], " 05", 299, ""), (300, None), u64::MAX,
+        "18446744073709551615 58 write F3 Long 9"),
+    ((["B0 20 /", ""], " B1", 300, ""), (2, Some(300)), 4_294_967_296,
+        "4294967296 58 read F3 Long 3"),
+    ((["B0", "0"], "0", 597, "/"), (300, Some(0)), 256, "256 58 write F3 Long 2"),
+    ((["B0 30 02 FF FF / B1 05", ""], " FF", 5, " 47"), (5, Some(8)), 1_000_000_000_000,
+        "1000000000000 58 COEFFICIENTS of FF side 255 read m -1 b -1 r -1"),
 ];
 
 #[test]

@@ -1,14 +1,9 @@
 //! Which format a voltage has: that of the last plain VOUT_MODE, a relative one, one of a list by address, none where the
 //! output isn't known, and DIRECT by its side.
 
-use super::Row;
-
-/// Rows under `--values`.
-pub(super) static FORMATS: [Row; 7] = [
-    (
-        &["pmb", "decode", "--values"],
-        0,
-        "
+/// Captures, as `are_told` reads them.
+pub(super) static FORMATS: &str = r#"
+$ 0 pmb decode --values
 B0 20 / B1 17 E4 -> 58 VOUT_MODE read 17 ULINEAR16 -9
 B0 8B / B1 66 02 7E -> 58 READ_VOUT read 0266 1.199218 V
 B2 8B / B3 66 02 6C -> 59 READ_VOUT read 0266
@@ -33,21 +28,11 @@ B4 21 00 10 98 -> 5A VOUT_COMMAND write 1000
 B6 20 / B7 17 EE -> 5B VOUT_MODE read 17 ULINEAR16 -9
 B6 06 02 00 78 / B7 01 00 79 -> 5B page 0 STATUS_BYTE read 00 none
 B6 21 00 10 B4 -> 5B VOUT_COMMAND write 1000
-count VOUT_MODE 7
-count READ_VOUT 2
-count VOUT_COMMAND 9
-count RESTORE_USER_ALL 1
-count PAGE 1
-count CLEAR_FAULTS 1
+count VOUT_MODE 7, READ_VOUT 2, VOUT_COMMAND 9, RESTORE_USER_ALL 1, PAGE 1, CLEAR_FAULTS 1
 count STATUS_BYTE 1
 lines 24 accepted 22 faults 2 bad 0
 ? line 13 writes PAGE: --pages shows which output each packet reaches
-",
-    ),
-    (
-        &["pmb", "decode", "--values", "--pages"],
-        0,
-        "
+$ 0 pmb decode --values --pages
 B0 20 / B1 97 6D -> 58 VOUT_MODE read 97 ULINEAR16 -9 relative
 B0 21 00 02 BE -> 58 VOUT_COMMAND write 0200 1 V
 B0 24 00 02 7E -> 58 VOUT_MAX write 0200 1 V
@@ -63,61 +48,28 @@ B2 20 / B3 B7 8B -> 59 page 1? VOUT_MODE read B7
 B2 21 02 00 B6 -> 59 page 1? VOUT_COMMAND write 0002
 B2 20 / B3 7F FD -> 59 page 1? VOUT_MODE read 7F half
 B2 21 02 00 B6 -> 59 page 1? VOUT_COMMAND write 0002
-count VOUT_MODE 4
-count VOUT_COMMAND 4
-count VOUT_MAX 1
-count VOUT_MARGIN_HIGH 2
-count VOUT_MARGIN_LOW 1
-count VOUT_MIN 1
-count READ_VOUT 1
-count PAGE 1
+count VOUT_MODE 4, VOUT_COMMAND 4, VOUT_MAX 1, VOUT_MARGIN_HIGH 2, VOUT_MARGIN_LOW 1, VOUT_MIN 1
+count READ_VOUT 1, PAGE 1
 lines 15 accepted 15 faults 0 bad 0
-",
-    ),
-    (
-        &["pmb", "decode", "--values", "--vout=ulinear16:-12"],
-        0,
-        "
+$ 0 pmb decode --values --vout=ulinear16:-12
 B0 06 02 00 20 / B1 01 97 CE -> 58 page 0 VOUT_MODE read 97 ULINEAR16 -9 relative
 B0 05 04 00 21 00 10 A2 -> 58 page 0 VOUT_COMMAND write 1000 8 V
 B0 05 04 00 25 00 10 09 -> 58 page 0 VOUT_MARGIN_HIGH write 1000
-count VOUT_MODE 1
-count VOUT_COMMAND 1
-count VOUT_MARGIN_HIGH 1
+count VOUT_MODE 1, VOUT_COMMAND 1, VOUT_MARGIN_HIGH 1
 lines 3 accepted 3 faults 0 bad 0
-",
-    ),
-    (
-        &[
-            "pmb",
-            "decode",
-            "--values",
-            "--vout=58:ulinear16:-12,5a/direct/1/0/3,ulinear16:-9,59:linear11",
-        ],
-        0,
-        "
+$ 0 pmb decode --values --vout=58:ulinear16:-12,5a/direct/1/0/3,ulinear16:-9,59:linear11
 B0 21 00 10 C0 -> 58 VOUT_COMMAND write 1000 1 V
 B2 21 00 10 EC -> 59 VOUT_COMMAND write 1000 8 V
 B4 21 00 10 98 -> 5A VOUT_COMMAND write 1000 4.096 V
 B0 05 04 07 21 00 10 C0 -> 58 page 7 VOUT_COMMAND write 1000 1 V
 count VOUT_COMMAND 4
 lines 4 accepted 4 faults 0 bad 0
-",
-    ),
-    (
-        &["pmb", "decode", "--values", "--vout=59:ulinear16:-12"],
-        0,
-        "
+$ 0 pmb decode --values --vout=59:ulinear16:-12
 B0 21 00 10 C0 -> 58 VOUT_COMMAND write 1000
 B2 21 00 10 EC -> 59 VOUT_COMMAND write 1000 1 V
 count VOUT_COMMAND 2
 lines 2 accepted 2 faults 0 bad 0
-",
-    ),
-    (
-        &["pmb", "decode", "--values", "--vout=ulinear16:-9"],
-        0,
-        "
+$ 0 pmb decode --values --vout=ulinear16:-9
 B0 06 02 00 20 / B1 01 13 5B -> 58 page 0 VOUT_MODE read 13 ULINEAR16 -13
 B0 21 00 20 50 -> 58 VOUT_COMMAND write 2000
 B0 05 04 FF 21 00 20 E3 -> 58 page 255 VOUT_COMMAND write 2000
@@ -137,15 +89,9 @@ B0 21 00 20 50 -> 58 VOUT_COMMAND write 2000
 B0 06 02 FF 20 / B1 01 17 7E -> 58 page 255 VOUT_MODE read 17 ULINEAR16 -9
 B0 05 04 FF 21 00 20 E3 -> 58 page 255 VOUT_COMMAND write 2000
 B0 21 00 20 50 -> 58 VOUT_COMMAND write 2000
-count VOUT_MODE 6
-count VOUT_COMMAND 12
+count VOUT_MODE 6, VOUT_COMMAND 12
 lines 19 accepted 18 faults 1 bad 0
-",
-    ),
-    (
-        &["pmb", "decode", "--values"],
-        0,
-        "
+$ 0 pmb decode --values
 B0 20 / B1 40 46 -> 58 VOUT_MODE read 40 DIRECT
 B0 21 E8 03 52 -> 58 VOUT_COMMAND write 03E8
 B0 30 02 21 01 / B1 05 02 00 00 00 03 DE -> 58 COEFFICIENTS of 21 side 1 read m 2 b 0 r 3
@@ -159,12 +105,6 @@ B0 30 02 24 02 / B1 05 05 00 00 00 03 58 -> 58 COEFFICIENTS of 24 side 2 read m 
 B0 24 E8 03 92 -> 58 VOUT_MAX write 03E8
 B0 30 02 8B 00 / B1 05 01 00 00 00 03 61 -> 58 COEFFICIENTS of 8B side 0 read m 1 b 0 r 3
 B0 8B / B1 E8 03 19 -> 58 READ_VOUT read 03E8 1 V
-count VOUT_MODE 1
-count VOUT_COMMAND 5
-count COEFFICIENTS 5
-count VOUT_MAX 1
-count READ_VOUT 1
+count VOUT_MODE 1, VOUT_COMMAND 5, COEFFICIENTS 5, VOUT_MAX 1, READ_VOUT 1
 lines 13 accepted 13 faults 0 bad 0
-",
-    ),
-];
+"#;

@@ -1,13 +1,8 @@
 //! What is shown of lines: faults, codes that the command table doesn't have, times, and the keys and places of JSON.
 
-use super::Row;
-
-/// Rows under each option.
-pub(super) static LINES: [Row; 17] = [
-    (
-        &["pmb", "decode"],
-        1,
-        "
+/// Captures, as `are_told` reads them.
+pub(super) static LINES: &str = r#"
+$ 1 pmb decode
 B0 05 04 01 21 CD 34 5A -> 58 write F5 WrongPec 7
 B0 06 02 00 21 / B1 02 CD -> 58 read F2 Short 3
 B0 06 02 00 21 / B1 02 CD 34 B9 00 -> 58 read F3 Long 5
@@ -27,12 +22,7 @@ B1 -> -- write F1 NotOurs
 B0 9 -> X2 BadHex
 B0 / B1 / B2 -> X1 Syntax
 lines 18 accepted 0 faults 16 bad 2
-",
-    ),
-    (
-        &["pmb", "decode", "--values"],
-        1,
-        "
+$ 1 pmb decode --values
 B0 05 04 01 21 CD 34 5A -> 58 write F5 WrongPec 7 bytes B0 05 04 01 21 CD 34 5A
 B0 06 02 00 21 / B1 02 CD -> 58 read F2 Short 3 bytes B0 06 02 00 21 / B1 02 CD
 B0 06 02 00 21 / B1 02 CD 34 B9 00 -> 58 read F3 Long 5 bytes B0 06 02 00 21 / B1 02 CD 34 B9 00
@@ -53,17 +43,10 @@ B0 9 -> X2 BadHex
 B0 / B1 / B2 -> X1 Syntax
 lines 18 accepted 0 faults 16 bad 2
 ? no line is a good packet: where lines begin with times, give --times
-",
-    ),
-    (
-        &["pmb", "decode", "--all"],
-        0,
-        "
-B0 96 / B1 34 12 B1 -> 58 code 96 READ_POUT read 34 12, PEC right
-B0 96 / B1 34 12 B0 -> 58 code 96 READ_POUT read 34 12 B0, no PEC
-B0 96 / B1 34 12 -> 58 code 96 READ_POUT read 34 12, no PEC
-B0 96 / B1 -> 58 code 96 READ_POUT read, no PEC
-B0 96 / B1 6B -> 58 code 96 READ_POUT read 6B, no PEC
+$ 0 pmb decode --all
+* B0 96 / @ -> 58 code 96 READ_POUT @
+B1 34 12 B1 = read 34 12, PEC right; B1 34 12 B0 = read 34 12 B0, no PEC
+B1 34 12 = read 34 12, no PEC; B1 = read, no PEC; B1 6B = read 6B, no PEC
 B0 86 02 01 02 / B1 03 04 1E -> 58 code 86 READ_EIN write 02 01 02 read 03 04, PEC right
 B0 86 02 01 02 / B1 -> 58 code 86 READ_EIN write 02 01 02 read, no PEC
 B0 D4 01 02 03 -> 58 code D4 write 01 02 03, no PEC
@@ -96,27 +79,10 @@ B0 8B CD 34 -> 58 code 8B READ_VOUT write CD 34, no PEC
 B0 03 / B1 05 -> 58 code 03 CLEAR_FAULTS read 05, no PEC
 EE D4 -> 77 code D4 send, no PEC
 12 D4 -> 09 code D4 send, no PEC
-count VOUT_COMMAND 1
-count code 03 1
-count code 05 2
-count code 06 6
-count code 0B 1
-count code 20 2
-count code 21 3
-count code 78 1
-count code 79 1
-count code 86 2
-count code 8B 1
-count code 96 5
-count code D4 8
-count code EF 3
+count VOUT_COMMAND 1, code 03 1, code 05 2, code 06 6, code 0B 1, code 20 2, code 21 3, code 78 1
+count code 79 1, code 86 2, code 8B 1, code 96 5, code D4 8, code EF 3
 lines 37 accepted 1 other 36 faults 0 bad 0
-",
-    ),
-    (
-        &["pmb", "decode", "--all"],
-        0,
-        "
+$ 0 pmb decode --all
 B0 7B / B1 C1 -> 58 code 7B STATUS_IOUT read C1, no PEC
 B0 7B / B1 80 C0 -> 58 code 7B STATUS_IOUT read 80, PEC right
 B0 7B 29 -> 58 code 7B STATUS_IOUT write 29, no PEC
@@ -130,21 +96,9 @@ B0 97 / B1 55 D1 -> 58 code 97 READ_PIN read 55 D1, no PEC
 B0 D4 / B1 1A -> 58 code D4 read 1A, no PEC
 B0 D4 / B1 12 38 -> 58 code D4 read 12, PEC right
 B0 11 38 -> 58 code 11 STORE_DEFAULT_ALL send, PEC right
-count code 02 2
-count code 11 1
-count code 7B 4
-count code 82 1
-count code 83 1
-count code 96 1
-count code 97 1
-count code D4 2
+count code 02 2, code 11 1, code 7B 4, code 82 1, code 83 1, code 96 1, code 97 1, code D4 2
 lines 13 accepted 0 other 13 faults 0 bad 0
-",
-    ),
-    (
-        &["pmb", "decode", "--all"],
-        0,
-        "
+$ 0 pmb decode --all
 B0 03 47 -> 58 write F5 WrongPec 2
 B0 21 CD 34 39 -> 58 write F5 WrongPec 4
 B0 05 04 00 D4 CD 34 F7 -> 58 write F5 WrongPec 7
@@ -159,12 +113,7 @@ B0 21 / B3 CD -> 58 read F1 NotOurs
 0E D4 -> -- write F1 NotOurs
 F0 D4 -> -- write F1 NotOurs
 lines 13 accepted 0 other 0 faults 13 bad 0
-",
-    ),
-    (
-        &["pmb", "decode", "--all"],
-        0,
-        "
+$ 0 pmb decode --all
 B0 21 CD 34 -> 58 VOUT_COMMAND write 34CD, no PEC
 B0 03 -> 58 CLEAR_FAULTS send, no PEC
 B0 01 94 -> 58 OPERATION write 94, no PEC
@@ -189,26 +138,10 @@ B0 24 / B1 FF FF -> 58 VOUT_MAX read FFFF, no PEC
 B0 24 / B1 FF -> 58 code 24 VOUT_MAX read FF, no PEC
 B0 24 FF FE -> 58 VOUT_MAX write FEFF, no PEC
 B0 24 / B1 FF FF -> 58 VOUT_MAX read FFFF, all ones: nobody answered?
-count VOUT_COMMAND 3
-count CLEAR_FAULTS 2
-count OPERATION 1
-count READ_VIN 1
-count STATUS_BYTE 1
-count COEFFICIENTS 1
-count READ_VOUT 3
-count STATUS_VOUT 1
-count VOUT_MAX 4
-count code 06 1
-count code 24 1
-count code 8B 1
-count code D4 4
+count VOUT_COMMAND 3, CLEAR_FAULTS 2, OPERATION 1, READ_VIN 1, STATUS_BYTE 1, COEFFICIENTS 1
+count READ_VOUT 3, STATUS_VOUT 1, VOUT_MAX 4, code 06 1, code 24 1, code 8B 1, code D4 4
 lines 24 accepted 17 other 7 faults 0 bad 0
-",
-    ),
-    (
-        &["pmb", "decode", "--all", "--values"],
-        0,
-        "
+$ 0 pmb decode --all --values
 B0 88 / B1 00 D3 -> 58 READ_VIN read D300, no PEC
 B0 20 / B1 17 -> 58 VOUT_MODE read 17 ULINEAR16 -9, no PEC
 B0 88 / B1 00 D3 -> 58 READ_VIN read D300 12 V?, no PEC
@@ -221,70 +154,35 @@ B0 8B / B1 CD 34 -> 58 READ_VOUT read 34CD, no PEC
 B0 79 00 08 -> 58 code 79 STATUS_WORD write 00 08, no PEC
 B0 88 / B1 FF FF -> 58 READ_VIN read FFFF -0.5 V?, all ones: nobody answered?
 B0 03 47 -> 58 write F5 WrongPec 2 bytes B0 03 47
-count READ_VIN 4
-count VOUT_MODE 2
-count READ_IOUT 1
-count STATUS_WORD 1
-count READ_VOUT 2
-count code 79 1
+count READ_VIN 4, VOUT_MODE 2, READ_IOUT 1, STATUS_WORD 1, READ_VOUT 2, code 79 1
 lines 12 accepted 10 other 1 faults 1 bad 0
-",
-    ),
-    (
-        &["pmb", "decode", "--all"],
-        0,
-        "
+$ 0 pmb decode --all
 B6 0B -> 5B code 0B send, no PEC
 B0 D4 6D -> 58 code D4 send, PEC right
 B0 21 CD 34 38 -> 58 VOUT_COMMAND write 34CD
-count VOUT_COMMAND 1
-count code 0B 1
-count code D4 1
+count VOUT_COMMAND 1, code 0B 1, code D4 1
 lines 3 accepted 1 other 2 faults 0 bad 0
-",
-    ),
-    (
-        &["pmb", "decode", "--all"],
-        0,
-        "
+$ 0 pmb decode --all
 B0 02 -> 58 code 02 ON_OFF_CONFIG send, no PEC
 B0 FF -> 58 code FF PMBUS_COMMAND_EXT send, no PEC
 B0 FF / B1 FF -> 58 code FF PMBUS_COMMAND_EXT read FF, all ones: nobody answered?
-count code 02 1
-count code FF 2
+count code 02 1, code FF 2
 lines 3 accepted 0 other 3 faults 0 bad 0
-",
-    ),
-    (
-        &["pmb", "decode", "--all"],
-        1,
-        "
+$ 1 pmb decode --all
 B0 03 46 -> 58 CLEAR_FAULTS send
 B0 9 -> X2 BadHex
 count CLEAR_FAULTS 1
 lines 2 accepted 1 other 0 faults 0 bad 1
-",
-    ),
-    (
-        &["pmb", "decode", "--all", "--pages"],
-        0,
-        "
+$ 0 pmb decode --all --pages
 B0 00 01 ED -> 58 PAGE write 01
 B0 21 CD 34 38 -> 58 page 1? VOUT_COMMAND write 34CD
 B0 D4 / B1 05 -> 58 page 1? code D4 read 05, no PEC
 B0 21 CD 34 38 -> 58 page 1? VOUT_COMMAND write 34CD
 B0 D4 / B1 -> 58 code D4 read, no PEC
 B0 21 CD 34 38 -> 58 VOUT_COMMAND write 34CD
-count PAGE 1
-count VOUT_COMMAND 3
-count code D4 2
+count PAGE 1, VOUT_COMMAND 3, code D4 2
 lines 6 accepted 4 other 2 faults 0 bad 0
-",
-    ),
-    (
-        &["pmb", "decode", "--times"],
-        1,
-        "
+$ 1 pmb decode --times
 1234 B0 03 46 -> 0 us 58 CLEAR_FAULTS send
 0 B0 03 46 -> -1234 us 58 CLEAR_FAULTS send
 007 B00346 -> -1227 us 58 CLEAR_FAULTS send
@@ -307,15 +205,9 @@ x zz -> X1 Syntax
 5 # B0 -> X2 BadHex
 5 B0 / B1 / B2 -> X1 Syntax
 5 x -> X2 BadHex
-count CLEAR_FAULTS 5
-count VOUT_MODE 1
+count CLEAR_FAULTS 5, VOUT_MODE 1
 lines 22 accepted 6 faults 3 bad 13
-",
-    ),
-    (
-        &["pmb", "decode", "--json"],
-        1,
-        r#"
+$ 1 pmb decode --json
 B0 05 04 00 21 CD 34 5A -> {"line":1,"address":"58","page":0,"code":"21","name":"VOUT_COMMAND","direction":"write","payload":"CD 34"}
 B0 06 02 01 21 / B1 02 CD 34 90 -> {"line":2,"address":"58","page":1,"code":"21","name":"VOUT_COMMAND","direction":"read","payload":"CD 34"}
 B0 03 46 -> {"line":3,"address":"58","code":"03","name":"CLEAR_FAULTS","direction":"send"}
@@ -330,12 +222,7 @@ B0 96 / B1 34 12 -> {"line":10,"address":"58","code":"96","direction":"write","f
 {"count":"CLEAR_FAULTS","lines":1}
 {"count":"COEFFICIENTS","lines":1}
 {"lines":10,"accepted":4,"faults":4,"bad":2}
-"#,
-    ),
-    (
-        &["pmb", "decode", "--json", "--values"],
-        0,
-        r#"
+$ 0 pmb decode --json --values
 B0 06 02 00 20 / B1 01 14 4E -> {"line":1,"address":"58","page":0,"code":"20","name":"VOUT_MODE","direction":"read","payload":"14","value":"ULINEAR16 -12"}
 B0 05 04 00 21 CD 34 5A -> {"line":2,"address":"58","page":0,"code":"21","name":"VOUT_COMMAND","direction":"write","payload":"CD 34","numerator":13517,"denominator":4096,"volts":3.300048}
 B0 88 / B1 00 D3 F6 -> {"line":3,"address":"58","code":"88","name":"READ_VIN","direction":"read","payload":"00 D3","numerator":768,"denominator":64,"volts":12,"assumed":true}
@@ -364,12 +251,7 @@ B0 20 / -> {"line":17,"address":"58","code":"20","direction":"read","packet":"B0
 {"count":"STATUS_WORD","lines":1}
 {"count":"STATUS_CML","lines":1}
 {"lines":17,"accepted":12,"faults":5,"bad":0}
-"#,
-    ),
-    (
-        &["pmb", "decode", "--all", "--json"],
-        0,
-        r#"
+$ 0 pmb decode --all --json
 B0 96 / B1 34 12 B1 -> {"line":1,"address":"58","code":"96","name":"READ_POUT","direction":"read","payload":"34 12","pec":true}
 B0 86 02 01 02 / B1 03 04 -> {"line":2,"address":"58","code":"86","name":"READ_EIN","direction":"read","written":"02 01 02","payload":"03 04","pec":false}
 B0 D4 -> {"line":3,"address":"58","code":"D4","direction":"send","pec":false}
@@ -395,12 +277,7 @@ B2 D4 / B3 FF -> {"line":14,"address":"59","code":"D4","direction":"read","paylo
 {"code":"EF","lines":1}
 {"code":"FF","lines":1}
 {"lines":14,"accepted":2,"other":12,"faults":0,"bad":0}
-"#,
-    ),
-    (
-        &["pmb", "decode", "--all", "--json", "--values"],
-        0,
-        r#"
+$ 0 pmb decode --all --json --values
 B0 99 / B1 03 4C 54 43 -> {"line":1,"address":"58","code":"99","name":"MFR_ID","direction":"read","payload":"03 4C 54 43","text":"LTC","pec":false}
 B0 7B / B1 82 CE -> {"line":2,"address":"58","code":"7B","name":"STATUS_IOUT","direction":"read","payload":"82","flags":["IOUT_OC_FAULT","POUT_OP_FAULT"],"pec":true}
 B0 02 16 -> {"line":3,"address":"58","code":"02","name":"ON_OFF_CONFIG","direction":"write","payload":"16","value":"by CONTROL, CONTROL active high, off with delay","pec":false}
@@ -414,18 +291,11 @@ B0 8D / B1 D8 07 -> {"line":6,"address":"58","code":"8D","name":"READ_TEMPERATUR
 {"code":"7B","lines":1}
 {"code":"99","lines":1}
 {"lines":6,"accepted":3,"other":3,"faults":0,"bad":0}
-"#,
-    ),
-    (
-        &["pmb", "decode", "--times", "--json"],
-        1,
-        r#"
+$ 1 pmb decode --times --json
 0012 B0 03 46 -> {"line":1,"time":0,"address":"58","code":"03","name":"CLEAR_FAULTS","direction":"send"}
 13 -> {"line":2,"time":1,"direction":"write","fault":"F1 NotOurs"}
 x -> {"line":3,"fault":"X1 Syntax"}
 14 B0 9 -> {"line":4,"fault":"X2 BadHex"}
 {"count":"CLEAR_FAULTS","lines":1}
 {"lines":4,"accepted":1,"faults":1,"bad":2}
-"#,
-    ),
-];
+"#;

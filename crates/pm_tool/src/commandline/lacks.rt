@@ -35,7 +35,7 @@ fn read_texts(texts: &[&str]) -> Option<Lacks>
 
 // The text says that a part lacks registers, too; false if it doesn't.
 fn add_text(lacks: &mut Lacks, text: &str) -> bool
-    ensures { (if result then Some lacks.new.parts else None) ≡ spec.lacks_text lacks.old.parts text.now }
+    ensures { (if result then Some lacks.new.parts else None) ≡ spec.lacks_in_text lacks.old.parts text.now }
 {
     let Some((addr, names)) = first_part(text) else {
         return false;

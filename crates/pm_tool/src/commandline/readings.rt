@@ -2,7 +2,7 @@
 ghost use Rattle.std.specs.Prelude.{◌≡◌, ◌∷◌, [], ◌++◌, ℕ, suc, List, Option, None, IfSome, MatchOption, flat_map, option_and_then, option_map};
 ghost use Rattle.pm_num.specs.AnyFormat.{shape_of};
 ghost use Rattle.pm_tool.specs.Question.{HasExponent, parts, text_at};
-ghost use Rattle.pm_tool.specs.ReadingList.{entries_left, entries_of, entry_for, entry_from, entry_of, entry_seen, if_any};
+ghost use Rattle.pm_tool.specs.ReadingList.{entries_left, listed_entries, entry_for, entry_from, listed_entry, entry_seen, if_any};
 ghost use Rattle.pm_tool.specs.ReadingList.{is_asked_for as spec_is_asked_for, is_place as spec_is_place, listed_shape, shape_named};
 
 use crate::numbers::{FormatText, first_item, first_part, read_format};
@@ -47,7 +47,7 @@ struct Four<'a> {
 
 /// The entries of a text, one to eight with commas between them; None if one can't be, or there are more.
 pub(super) fn read_list(listed: Listed, text: &str) -> Option<[Option<GivenFormat>; 8]>
-    ensures { option_map (λ made. flat_map if_any made) result ≡ entries_of listed text.now }
+    ensures { option_map (λ made. flat_map if_any made) result ≡ listed_entries listed text.now }
 {
     let front = read_four(listed, Some(text))?;
     let back = read_four(listed, front.left)?;
@@ -128,7 +128,7 @@ fn read_one(listed: Listed, text: Option<&str>) -> Option<One<'_>>
 
 // An entry: `FORMAT`, and `AA:FORMAT` of voltages, `CC:FORMAT` or `AA:CC:FORMAT` of readings.
 fn read_entry(listed: Listed, text: &str) -> Option<GivenFormat>
-    ensures { option_map entry_seen result ≡ entry_of listed text.now }
+    ensures { option_map entry_seen result ≡ listed_entry listed text.now }
 {
     let Some((first, after)) = first_part(text) else {
         return entry_in(listed, None, None, read_format(text));

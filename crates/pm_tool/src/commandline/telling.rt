@@ -4,7 +4,7 @@ ghost use Rattle.std.specs.Result.{result_map_both};
 ghost use Rattle.clap.specs.Words.{found_of, one_of, rows_of};
 ghost use Rattle.pm_tool.specs.Telling.{HasTexts, IsAsked, IsFlag};
 ghost use Rattle.pm_tool.specs.ReadingList.{if_any};
-ghost use Rattle.pm_tool.specs.Telling.{addresses_or_fault, gap_asked, is_any, names_any as spec_names_any, pause_of, readings_asked, vout_asked};
+ghost use Rattle.pm_tool.specs.Telling.{addresses_or_fault, gap_asked, is_any, names_any as spec_names_any, pause_of_text, readings_asked, vout_asked};
 
 use super::addresses::read_addresses;
 use super::options::given_text;
@@ -188,7 +188,7 @@ fn is_given(matches: &ArgMatches<'_>, name: &str) -> bool
 
 // The milliseconds of a pause, 0 to 1000000 in at most seven digits.
 fn read_pause(text: &str) -> Option<u64>
-    ensures written { result ≡ pause_of text.now }
+    ensures written { result ≡ pause_of_text text.now }
     ensures short { IfSome result (λ pause. pause ≤ 1000000) }
 {
     let digits = text.as_bytes();

@@ -1,8 +1,8 @@
 //! The answer to a question, and its line.
 ghost use Rattle.std.specs.Prelude.{◌≡◌, ◌↔◌, Err, IfOk, string_bytes};
 ghost use Rattle.pm_num.specs.declared.fault.NumFault.{NumFault};
-ghost use Rattle.pm_tool.specs.NumberText.{IsAnswer, IsFloorMicro, IsWordFor, RefusesValue};
-ghost use Rattle.pm_tool.specs.NumberText.{line_of};
+ghost use Rattle.pm_tool.specs.NumberText.{IsAnswer, IsFloorMicro, IsAskedWord, RefusesValue};
+ghost use Rattle.pm_tool.specs.NumberText.{number_line_of};
 
 use crate::numbers::question::Asked;
 use pm_lines::{push_hex_word, push_signed};
@@ -30,7 +30,7 @@ pub(crate) fn answer_in<F: NumFormat>(format: &F, asked: Asked) -> Result<Answer
 
 /// The word that is asked for.
 fn word_in<F: NumFormat>(format: &F, asked: Asked) -> Result<u16, NumFault>
-    ensures word { IfOk result (IsWordFor (F.value format.now) (F.rank format.now) asked) }
+    ensures word { IfOk result (IsAskedWord (F.value format.now) (F.rank format.now) asked) }
     ensures refused { (fault : NumFault) → (result ≡ Err fault)
         ↔ RefusesValue (F.lowest format.now) (F.highest format.now) asked fault }
 {
@@ -59,7 +59,7 @@ const ROOM: usize = 96;
 /// The line of an answer. Takes memory once.
 #[tactic(auto, using(pm_lines::specs::Lemmas::Joins::signed_joins))]
 pub(crate) fn line(alloc: Global, answer: &Answer) -> Result<String, AllocError>
-    ensures { IfOk result (λ text. string_bytes text ≡ line_of answer.now) }
+    ensures { IfOk result (λ text. string_bytes text ≡ number_line_of answer.now) }
 {
     let mut text = String::with_capacity(alloc, ROOM)?;
     text.push_str("word ")?;

@@ -1,6 +1,6 @@
 //! The refusals of `number`.
 ghost use Rattle.std.specs.Prelude.{◌≡◌};
-ghost use Rattle.pm_tool.specs.NumberFaults.{refusal_status, refusal_words};
+ghost use Rattle.pm_tool.specs.NumberFaults.{refusal_status, number_refusal_words};
 ghost use Rattle.pm_lines.specs.declared.fault.TextFault.TheVariants.{Memory};
 ghost use Rattle.pm_tool.specs.declared.numbers.fault.NumberFault.TheVariants as refusals;
 
@@ -31,7 +31,7 @@ pub enum NumberFault {
 impl NumberFault {
     /// What is said of the refusal on standard error: `bad word`, `N4 AboveGreatest`, `X5 Write`.
     pub fn words(&self) -> &'static str
-        ensures { result.now ≡ refusal_words self.now }
+        ensures { result.now ≡ number_refusal_words self.now }
     {
         match self {
             NumberFault::OneOf => "give one of --word and --micro",

@@ -5,7 +5,8 @@ ghost use Rattle.std.specs.List.{list_any};
 ghost use Rattle.pm_lines.specs.Digits.{signed_of};
 ghost use Rattle.pm_tool.specs.NumberText.{IsCommandLineFault};
 ghost use Rattle.pm_tool.specs.Question.{HasExponent, direct_format, exponent_format, format_by};
-ghost use Rattle.pm_tool.specs.Question.{asked_by, format_of, is_slash, items, parts, plain_format_of};
+ghost use Rattle.pm_tool.specs.Question.{question_of_options, format_of, items, parts, plain_format_of};
+ghost use Rattle.pm_trace.specs.Trace.{is_slash};
 
 use crate::numbers::fault::NumberFault;
 use pm_lines::{read_i8, read_i16, read_i64, read_word};
@@ -45,7 +46,7 @@ pub(crate) fn read_question(
     micro: Option<&str>,
 ) -> Result<Question, NumberFault>
     ensures asked { result
-        ≡ asked_by format.entry word.entry micro.entry }
+        ≡ question_of_options format.entry word.entry micro.entry }
     ensures exponent { IfOk result (λ asked. HasExponent asked.format) }
     ensures faults { IfErr result IsCommandLineFault }
 {

@@ -5,7 +5,7 @@ ghost use Rattle.pm_lines.specs.Faults.{IsOfText};
 ghost use Rattle.pm_lines.specs.Lines.{words_of};
 ghost use Rattle.pm_lines.specs.declared.fault.TextFault.TheVariants.{Memory};
 ghost use Rattle.pm_tool.specs.Script.{begins_with, line_event, restart_event};
-ghost use Rattle.pm_tool.specs.LineEvent.{event_of};
+ghost use Rattle.pm_tool.specs.LineEvent.{event_of_line};
 ghost use Rattle.pm_device.specs.Effect.{Restarted};
 
 use pm_device::Ending;
@@ -27,7 +27,7 @@ pub(super) enum LineEvent {
 #[tactic(auto, using(crate::proofs::Texts::uncut), unfolding(crate::specs::Script::line_event))]
 pub(super) fn read_event(line: Line<'_>, frame: &mut Vec<u8>) -> Result<LineEvent, TextFault>
     ensures event { IfOk result (λ event.
-        line_event (line.entry.number, line.entry.text.now) ≡ Ok (event_of event frame.new.items)) }
+        line_event (line.entry.number, line.entry.text.now) ≡ Ok (event_of_line event frame.new.items)) }
     ensures fault { IfErr result (λ e. (e ≡ Memory)
         ⊎ (line_event (line.entry.number, line.entry.text.now) ≡ Err e)) }
     ensures faults { IfErr result IsOfText }

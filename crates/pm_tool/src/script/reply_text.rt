@@ -2,7 +2,7 @@
 
 ghost use Rattle.std.specs.Prelude.{◌≡◌, ◌<◌, ◌++◌, OnOk};
 ghost use Rattle.pm_tool.specs.HeardText.{reply_words};
-ghost use Rattle.pm_tool.specs.Script.{as_line, output_line};
+ghost use Rattle.pm_tool.specs.Script.{as_line, output_word_line};
 
 use super::answer_text::{AnswerText, push_text};
 use super::heard_text::{TAKEN, push_heard};
@@ -29,7 +29,7 @@ pub(super) fn push_reply(text: &mut Vec<u8>, heard: &Heard) -> Result<(), AllocE
 /// The line of an output, whose number has one digit, and of its word of VOUT_COMMAND.
 pub(super) fn output_line(output: u8, word: u16) -> [u8; 27]
     requires { output < 10 }
-    ensures { result ≡ output_line output word }
+    ensures { result ≡ output_word_line output word }
 {
     let mut line = *b"output 0 VOUT_COMMAND 0000\n";
     let [a, b] = hex_digits((word / 256) as u8);

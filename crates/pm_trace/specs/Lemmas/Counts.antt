@@ -34,10 +34,10 @@ placed_is es code place count at found =
     ∙ ap (λ number. insert_entry nat_eq es code (unwrap_or number 0 + 1)) (sym found) ∙ one_more_is es code
 
 -- the count of a code that stands at the place that is looked at, since none stands at two
-pub at_place : (es : List (ℕ × ℕ)) (code place count : ℕ) → IsDistinct nat_eq (keys_of es)
+pub count_at_place : (es : List (ℕ × ℕ)) (code place count : ℕ) → IsDistinct nat_eq (keys_of es)
     → option_map (λ e. e.0) (slice_get es place) ≡ Some code → slice_get (values_of es) place ≡ Some count
     → set_value_at es place (count + 1) ≡ one_more es code
-at_place es code place count distinct key value = by (slice_get es place) refl
+count_at_place es code place count distinct key value = by (slice_get es place) refl
   where
     by : (found : Option (ℕ × ℕ)) → slice_get es place ≡ found → set_value_at es place (count + 1) ≡ one_more es code
     by None is = let none : Some code ≡ None = sym key ∙ ap (option_map (λ e. e.0)) is in absurd (cc)

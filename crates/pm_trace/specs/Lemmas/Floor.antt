@@ -5,9 +5,9 @@ use Rattle.std.specs.Int.{int_div_euclid}
 use Rattle.std.proofs.lemmas.Int.{ints}
 
 -- the quotient's multiple is reached
-pub reached : (a : ℤ) (d : ℕ) → 0 < d → (int_div_euclid a (pos d) *ℤ pos d) ≤ℤ a
-reached (pos a) d positive = omega (arith, ints)
-reached (negsuc a) d positive = omega (arith, ints)
+pub quotient_is_reached : (a : ℤ) (d : ℕ) → 0 < d → (int_div_euclid a (pos d) *ℤ pos d) ≤ℤ a
+quotient_is_reached (pos a) d positive = omega (arith, ints)
+quotient_is_reached (negsuc a) d positive = omega (arith, ints)
 
 -- the multiple after the quotient's is not reached
 pub passed : (a : ℤ) (d : ℕ) → 0 < d → a <ℤ (int_div_euclid a (pos d) *ℤ pos d +ℤ pos d)

@@ -3,16 +3,16 @@ use Rattle.std.proofs.Common.{◌≡◌, ℕ, ◌<◌, Bool, true, false, cond, 
 use Rattle.std.specs.List.{list_any, slice_split, onto_first}
 use Rattle.std.proofs.Math.Bool.{or-true, or-false}
 use Rattle.std.proofs.lemmas.List.Folds.{list_any-append}
-use Rattle.pm_trace.specs.Marks.{onto_next, ended, since, before, after}
+use Rattle.pm_trace.specs.Marks.{onto_next, ended_pieces, since, before, after_first_mark}
 
 -- ---- no mark
 
 -- without a mark no piece ends
-pub ended_none : (mark : ℕ → Bool) (xs : List ℕ) → list_any mark xs ≡ false → ended mark xs ≡ []
+pub ended_none : (mark : ℕ → Bool) (xs : List ℕ) → list_any mark xs ≡ false → ended_pieces mark xs ≡ []
 ended_none mark [] none = refl
 ended_none mark (x ∷ xs) none = by (mark x) refl (ended_none mark xs)
   where
-    by : (b : Bool) → mark x ≡ b → (list_any mark xs ≡ false → ended mark xs ≡ []) → ended mark (x ∷ xs) ≡ []
+    by : (b : Bool) → mark x ≡ b → (list_any mark xs ≡ false → ended_pieces mark xs ≡ []) → ended_pieces mark (x ∷ xs) ≡ []
     by true is rest = let marked = rw is at none in absurd (cc)
     by false is rest = rw (is, rest (rw is at none)) refl
 
@@ -31,18 +31,18 @@ before_none mark (x ∷ xs) none = by (mark x) refl (before_none mark xs)
     by false is rest = rw is (ap (λ l. x ∷ l) (rest (rw is at none)))
 
 -- without a mark nothing follows the first one
-pub after_none : (mark : ℕ → Bool) (xs : List ℕ) → list_any mark xs ≡ false → after mark xs ≡ []
+pub after_none : (mark : ℕ → Bool) (xs : List ℕ) → list_any mark xs ≡ false → after_first_mark mark xs ≡ []
 after_none mark [] none = refl
 after_none mark (x ∷ xs) none = by (mark x) refl (after_none mark xs)
   where
-    by : (b : Bool) → mark x ≡ b → (list_any mark xs ≡ false → after mark xs ≡ []) → after mark (x ∷ xs) ≡ []
+    by : (b : Bool) → mark x ≡ b → (list_any mark xs ≡ false → after_first_mark mark xs ≡ []) → after_first_mark mark (x ∷ xs) ≡ []
     by true is rest = let marked = rw is at none in absurd (cc)
     by false is rest = rw is (rest (rw is at none))
 
 -- ---- the pieces
 
 -- a mark makes a piece
-some_ended : (mark : ℕ → Bool) (xs : List ℕ) → list_any mark xs ≡ true → 0 < length (ended mark xs)
+some_ended : (mark : ℕ → Bool) (xs : List ℕ) → list_any mark xs ≡ true → 0 < length (ended_pieces mark xs)
 some_ended mark [] some = absurd (cc)
 some_ended mark (x ∷ xs) some = by (mark x) refl (some_ended mark xs)
   where
@@ -50,9 +50,9 @@ some_ended mark (x ∷ xs) some = by (mark x) refl (some_ended mark xs)
     onto_some [] few = absurd (omega arith)
     onto_some (l ∷ ls) few = omega arith
 
-    by : (b : Bool) → mark x ≡ b → (list_any mark xs ≡ true → 0 < length (ended mark xs)) → 0 < length (ended mark (x ∷ xs))
+    by : (b : Bool) → mark x ≡ b → (list_any mark xs ≡ true → 0 < length (ended_pieces mark xs)) → 0 < length (ended_pieces mark (x ∷ xs))
     by true is rest = rw is (omega arith)
-    by false is rest = rw is (onto_some (ended mark xs) (rest (rw is at some)))
+    by false is rest = rw is (onto_some (ended_pieces mark xs) (rest (rw is at some)))
 
 -- the first piece is that of the front
 onto_next-append : (x : ℕ) (ls ms : List (List ℕ)) → 0 < length ls → onto_next x (ls ++ ms) ≡ onto_next x ls ++ ms
@@ -61,30 +61,33 @@ onto_next-append x (l ∷ ls) ms some = refl
 
 -- one byte before the pieces and what stands since the last mark
 onto_last : (mark : ℕ → Bool) (x : ℕ) (xs : List ℕ) → mark x ≡ false
-    → onto_next x (ended mark xs ++ since mark xs ∷ []) ≡ onto_next x (ended mark xs) ++ cond (list_any mark xs) (since mark xs)
+    → onto_next x (ended_pieces mark xs ++ since mark xs ∷ []) ≡ onto_next x (ended_pieces mark xs)
+    ++ cond (list_any mark xs) (since mark xs)
     (x ∷ xs) ∷ []
 onto_last mark x xs other = by (list_any mark xs) refl
   where
     by : (b : Bool) → list_any mark xs ≡ b
-        → onto_next x (ended mark xs ++ since mark xs ∷ []) ≡ onto_next x (ended mark xs) ++ cond (list_any mark xs) (since mark xs)
+        → onto_next x (ended_pieces mark xs ++ since mark xs ∷ []) ≡ onto_next x (ended_pieces mark xs)
+        ++ cond (list_any mark xs) (since mark xs)
         (x ∷ xs) ∷ []
-    by true some = rw some (onto_next-append x (ended mark xs) (since mark xs ∷ []) (some_ended mark xs some))
+    by true some = rw some (onto_next-append x (ended_pieces mark xs) (since mark xs ∷ []) (some_ended mark xs some))
     by false none = rw (none, ended_none mark xs none, since_none mark xs none) refl
 
 -- a mark ends a piece
 -- Stands for `stops` of `OpenLine::take_line`.
-pub ended-mark : (mark : ℕ → Bool) (xs : List ℕ) (b : ℕ) → mark b ≡ true → ended mark (xs ++ b ∷ []) ≡ ended mark xs ++ since mark xs ∷ []
+pub ended-mark : (mark : ℕ → Bool) (xs : List ℕ) (b : ℕ) → mark b ≡ true → ended_pieces mark (xs ++ b ∷ []) ≡ ended_pieces mark xs
+    ++ since mark xs ∷ []
 ended-mark mark [] b is = rw is refl
 ended-mark mark (x ∷ xs) b is = by (mark x) refl (ended-mark mark xs b is)
   where
-    by : (c : Bool) → mark x ≡ c → ended mark (xs ++ b ∷ []) ≡ ended mark xs ++ since mark xs ∷ []
-        → ended mark ((x ∷ xs) ++ b ∷ []) ≡ ended mark (x ∷ xs) ++ since mark (x ∷ xs) ∷ []
+    by : (c : Bool) → mark x ≡ c → ended_pieces mark (xs ++ b ∷ []) ≡ ended_pieces mark xs ++ since mark xs ∷ []
+        → ended_pieces mark ((x ∷ xs) ++ b ∷ []) ≡ ended_pieces mark (x ∷ xs) ++ since mark (x ∷ xs) ∷ []
     by true marked rest = rw (marked, rest) refl
     by false other rest = rw (other, rest) (onto_last mark x xs other)
 
 -- another byte ends none
 -- Stands for `stops` of `OpenLine::take_line`.
-pub ended-other : (mark : ℕ → Bool) (xs : List ℕ) (b : ℕ) → mark b ≡ false → ended mark (xs ++ b ∷ []) ≡ ended mark xs
+pub ended-other : (mark : ℕ → Bool) (xs : List ℕ) (b : ℕ) → mark b ≡ false → ended_pieces mark (xs ++ b ∷ []) ≡ ended_pieces mark xs
 ended-other mark [] b other = rw other refl
 ended-other mark (x ∷ xs) b other = rw (ended-other mark xs b other) refl
 
@@ -110,7 +113,7 @@ since-other mark (x ∷ xs) b other =
     by false rest = refl
 
 -- cut at the marks: the pieces that end, and what stands since
-pub split-ended : (mark : ℕ → Bool) (xs : List ℕ) → slice_split mark xs ≡ ended mark xs ++ since mark xs ∷ []
+pub split-ended : (mark : ℕ → Bool) (xs : List ℕ) → slice_split mark xs ≡ ended_pieces mark xs ++ since mark xs ∷ []
 split-ended mark [] = refl
 split-ended mark (x ∷ xs) = by (mark x) refl (split-ended mark xs)
   where
@@ -118,10 +121,10 @@ split-ended mark (x ∷ xs) = by (mark x) refl (split-ended mark xs)
     first_next [] l = refl
     first_next (m ∷ ms) l = refl
 
-    by : (c : Bool) → mark x ≡ c → slice_split mark xs ≡ ended mark xs ++ since mark xs ∷ []
-        → slice_split mark (x ∷ xs) ≡ ended mark (x ∷ xs) ++ since mark (x ∷ xs) ∷ []
+    by : (c : Bool) → mark x ≡ c → slice_split mark xs ≡ ended_pieces mark xs ++ since mark xs ∷ []
+        → slice_split mark (x ∷ xs) ≡ ended_pieces mark (x ∷ xs) ++ since mark (x ∷ xs) ∷ []
     by true marked rest = rw (marked, rest) refl
-    by false other rest = rw (other, rest) (first_next (ended mark xs) (since mark xs) ∙ onto_last mark x xs other)
+    by false other rest = rw (other, rest) (first_next (ended_pieces mark xs) (since mark xs) ∙ onto_last mark x xs other)
 
 -- ---- before and after the first mark
 
@@ -146,17 +149,18 @@ before-unmarked mark (x ∷ xs) ys none = by (mark x) refl (before-unmarked mark
     by false is rest = rw is (ap (λ l. x ∷ l) (rest (rw is at none)))
 
 -- what follows a mark of the front
-pub after-marked : (mark : ℕ → Bool) (xs ys : List ℕ) → list_any mark xs ≡ true → after mark (xs ++ ys) ≡ after mark xs ++ ys
+pub after-marked : (mark : ℕ → Bool) (xs ys : List ℕ) → list_any mark xs ≡ true → after_first_mark mark (xs ++ ys)
+    ≡ after_first_mark mark xs ++ ys
 after-marked mark [] ys some = absurd (cc)
 after-marked mark (x ∷ xs) ys some = by (mark x) refl (after-marked mark xs ys)
   where
-    by : (c : Bool) → mark x ≡ c → (list_any mark xs ≡ true → after mark (xs ++ ys) ≡ after mark xs ++ ys)
-        → after mark ((x ∷ xs) ++ ys) ≡ after mark (x ∷ xs) ++ ys
+    by : (c : Bool) → mark x ≡ c → (list_any mark xs ≡ true → after_first_mark mark (xs ++ ys) ≡ after_first_mark mark xs ++ ys)
+        → after_first_mark mark ((x ∷ xs) ++ ys) ≡ after_first_mark mark (x ∷ xs) ++ ys
     by true is rest = rw is refl
     by false is rest = rw is (rest (rw is at some))
 
 -- nothing follows a mark that comes last
-pub after-unmarked : (mark : ℕ → Bool) (xs : List ℕ) (b : ℕ) → list_any mark xs ≡ false → after mark (xs ++ b ∷ []) ≡ []
+pub after-unmarked : (mark : ℕ → Bool) (xs : List ℕ) (b : ℕ) → list_any mark xs ≡ false → after_first_mark mark (xs ++ b ∷ []) ≡ []
 after-unmarked mark [] b none = by (mark b) []
   where
     by : (c : Bool) (l : List ℕ) → cond c l l ≡ l
@@ -164,6 +168,7 @@ after-unmarked mark [] b none = by (mark b) []
     by false l = refl
 after-unmarked mark (x ∷ xs) b none = by (mark x) refl (after-unmarked mark xs b)
   where
-    by : (c : Bool) → mark x ≡ c → (list_any mark xs ≡ false → after mark (xs ++ b ∷ []) ≡ []) → after mark ((x ∷ xs) ++ b ∷ []) ≡ []
+    by : (c : Bool) → mark x ≡ c → (list_any mark xs ≡ false → after_first_mark mark (xs ++ b ∷ []) ≡ []) →
+        after_first_mark mark ((x ∷ xs) ++ b ∷ []) ≡ []
     by true is rest = let marked = rw is at none in absurd (cc)
     by false is rest = rw is (rest (rw is at none))

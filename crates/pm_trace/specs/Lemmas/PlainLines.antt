@@ -12,8 +12,8 @@ use Rattle.std.proofs.lemmas.Grind.{flat_map-append}
 use Rattle.hex.specs.Hex.{is_hex_digit}
 use Rattle.pm_lines.specs.Lines.{is_space}
 use Rattle.pm_lines.specs.Pairs.{byte_of}
-use Rattle.pm_trace.specs.Marks.{ended, since, before, after}
-use Rattle.pm_trace.specs.Trace.{is_slash, is_separator, unpaired, word_bytes, is_bad_word, part_bytes, max_part}
+use Rattle.pm_trace.specs.Marks.{ended_pieces, since, before, after_first_mark}
+use Rattle.pm_trace.specs.Trace.{is_slash, is_separator, unpaired, bytes_of_digits, is_bad_word, part_bytes, max_part}
 use Rattle.pm_trace.specs.Parts.{Collected, part_of, part_takes}
 use Rattle.pm_trace.specs.OpenLines.{kind_of, kind_takes, slashes_of, one_slash_more, has_slash, has_more_slashes, plain_line}
 use Rattle.pm_trace.specs.OpenLines.{plain_takes, word_ends, word_goes_on}
@@ -25,9 +25,9 @@ use Rattle.pm_trace.specs.Lemmas.Marks.{before-marked, before-unmarked, after-ma
 -- ---- pairs of digits
 
 -- the byte that a digit makes with the one before it, where there is one
-abbrev pub pair_of : Option ℕ → ℕ → List ℕ
-pair_of None byte = []
-pair_of (Some high) byte = byte_of high byte ∷ []
+abbrev pub byte_after_digit : Option ℕ → ℕ → List ℕ
+byte_after_digit None byte = []
+byte_after_digit (Some high) byte = byte_of high byte ∷ []
 
 -- the last digit then
 abbrev pub digit_after : Option ℕ → ℕ → Option ℕ
@@ -35,7 +35,7 @@ digit_after None byte = Some byte
 digit_after (Some high) byte = None
 
 -- one digit more of a word
-word_bytes-snoc : (word : List ℕ) (b : ℕ) → word_bytes (word ++ b ∷ []) ≡ word_bytes word ++ pair_of (unpaired word) b
+word_bytes-snoc : (word : List ℕ) (b : ℕ) → bytes_of_digits (word ++ b ∷ []) ≡ bytes_of_digits word ++ byte_after_digit (unpaired word) b
 word_bytes-snoc [] b = refl
 word_bytes-snoc (x ∷ []) b = refl
 word_bytes-snoc (x ∷ y ∷ word) b = ap (λ l. byte_of x y ∷ l) (word_bytes-snoc word b)
@@ -49,36 +49,37 @@ unpaired-snoc (x ∷ y ∷ word) b = unpaired-snoc word b
 -- ---- a part
 
 -- the bytes of the words that ended, and of the one that goes on
-part_bytes-split : (part : List ℕ) → part_bytes part ≡ flat_map word_bytes (ended is_separator part) ++ word_bytes (since is_separator part)
+part_bytes-split : (part : List ℕ) → part_bytes part ≡ flat_map bytes_of_digits (ended_pieces is_separator part)
+    ++ bytes_of_digits (since is_separator part)
 part_bytes-split part =
-    ap (flat_map word_bytes) (split-ended is_separator part)
-    ∙ flat_map-append word_bytes (ended is_separator part) (since is_separator part ∷ [])
-    ∙ ap (λ l. flat_map word_bytes (ended is_separator part) ++ l) (append-nil (word_bytes (since is_separator part)))
+    ap (flat_map bytes_of_digits) (split-ended is_separator part)
+    ∙ flat_map-append bytes_of_digits (ended_pieces is_separator part) (since is_separator part ∷ [])
+    ∙ ap (λ l. flat_map bytes_of_digits (ended_pieces is_separator part) ++ l) (append-nil (bytes_of_digits (since is_separator part)))
 
 -- a space or a slash writes no byte
 part_bytes-separator : (part : List ℕ) (b : ℕ) → is_separator b ≡ true → part_bytes (part ++ b ∷ []) ≡ part_bytes part
 part_bytes-separator part b is =
-    let old = flat_map word_bytes (ended is_separator part) in
-    let last = word_bytes (since is_separator part) in
+    let old = flat_map bytes_of_digits (ended_pieces is_separator part) in
+    let last = bytes_of_digits (since is_separator part) in
     part_bytes-split (part ++ b ∷ [])
-    ∙ ap (λ l. flat_map word_bytes l ++ word_bytes (since is_separator (part ++ b ∷ []))) (ended-mark is_separator part b is)
-    ∙ ap (λ l. flat_map word_bytes (ended is_separator part ++ since is_separator part ∷ []) ++ word_bytes l)
+    ∙ ap (λ l. flat_map bytes_of_digits l ++ bytes_of_digits (since is_separator (part ++ b ∷ []))) (ended-mark is_separator part b is)
+    ∙ ap (λ l. flat_map bytes_of_digits (ended_pieces is_separator part ++ since is_separator part ∷ []) ++ bytes_of_digits l)
     (since-mark is_separator part b is)
-    ∙ append-nil (flat_map word_bytes (ended is_separator part ++ since is_separator part ∷ []))
-    ∙ flat_map-append word_bytes (ended is_separator part) (since is_separator part ∷ [])
+    ∙ append-nil (flat_map bytes_of_digits (ended_pieces is_separator part ++ since is_separator part ∷ []))
+    ∙ flat_map-append bytes_of_digits (ended_pieces is_separator part) (since is_separator part ∷ [])
     ∙ ap (λ l. old ++ l) (append-nil last) ∙ sym (part_bytes-split part)
 
 -- another byte may end a pair
 part_bytes-other : (part : List ℕ) (b : ℕ) → is_separator b ≡ false
-    → part_bytes (part ++ b ∷ []) ≡ part_bytes part ++ pair_of (unpaired (since is_separator part)) b
+    → part_bytes (part ++ b ∷ []) ≡ part_bytes part ++ byte_after_digit (unpaired (since is_separator part)) b
 part_bytes-other part b other =
-    let old = flat_map word_bytes (ended is_separator part) in
-    let pair = pair_of (unpaired (since is_separator part)) b in
+    let old = flat_map bytes_of_digits (ended_pieces is_separator part) in
+    let pair = byte_after_digit (unpaired (since is_separator part)) b in
     part_bytes-split (part ++ b ∷ [])
-    ∙ ap (λ l. flat_map word_bytes l ++ word_bytes (since is_separator (part ++ b ∷ []))) (ended-other is_separator part b other)
-    ∙ ap (λ l. old ++ word_bytes l) (since-other is_separator part b other)
+    ∙ ap (λ l. flat_map bytes_of_digits l ++ bytes_of_digits (since is_separator (part ++ b ∷ []))) (ended-other is_separator part b other)
+    ∙ ap (λ l. old ++ bytes_of_digits l) (since-other is_separator part b other)
     ∙ ap (λ l. old ++ l) (word_bytes-snoc (since is_separator part) b)
-    ∙ sym (append_assoc old (word_bytes (since is_separator part)) pair)
+    ∙ sym (append_assoc old (bytes_of_digits (since is_separator part)) pair)
     ∙ ap (λ l. l ++ pair) (sym (part_bytes-split part))
 
 -- one byte more of a part
@@ -138,12 +139,13 @@ slash_separates (x ∷ xs) some = by (eqb x 47) refl (slash_separates xs)
     by false is rest = rw (rest (rw is at some), or-true (eqb x 32 || eqb x 47)) refl
 
 -- after a slash the word that goes on stands in the read part
-since_after : (xs : List ℕ) → list_any is_slash xs ≡ true → since is_separator xs ≡ since is_separator (after is_slash xs)
+since_after : (xs : List ℕ) → list_any is_slash xs ≡ true → since is_separator xs ≡ since is_separator (after_first_mark is_slash xs)
 since_after [] some = refl
 since_after (x ∷ xs) some = by (eqb x 47) refl (since_after xs)
   where
-    by : (c : Bool) → eqb x 47 ≡ c → (list_any is_slash xs ≡ true → since is_separator xs ≡ since is_separator (after is_slash xs))
-        → since is_separator (x ∷ xs) ≡ since is_separator (after is_slash (x ∷ xs))
+    by : (c : Bool) → eqb x 47 ≡ c →
+        (list_any is_slash xs ≡ true → since is_separator xs ≡ since is_separator (after_first_mark is_slash xs))
+        → since is_separator (x ∷ xs) ≡ since is_separator (after_first_mark is_slash (x ∷ xs))
     by true is rest = rw (is, or-true (eqb x 32)) refl
     by false is rest =
         let more : list_any is_slash xs ≡ true = rw is at some in
@@ -171,28 +173,32 @@ module _ (line : List ℕ) (b : ℕ) where
       by false none = ends (is_slash b) refl none
 
   -- the read part with a space or slash more
-  read_parted : is_separator b ≡ true → part_bytes (after is_slash (line ++ b ∷ [])) ≡ part_bytes (after is_slash line)
+  read_parted : is_separator b ≡ true → part_bytes (after_first_mark is_slash (line ++ b ∷ []))
+      ≡ part_bytes (after_first_mark is_slash line)
   read_parted is = by (list_any is_slash line) refl
     where
-      by : (c : Bool) → list_any is_slash line ≡ c → part_bytes (after is_slash (line ++ b ∷ [])) ≡ part_bytes (after is_slash line)
-      by true some = ap part_bytes (after-marked is_slash line (b ∷ []) some) ∙ part_bytes-separator (after is_slash line) b is
+      by : (c : Bool) → list_any is_slash line ≡ c → part_bytes (after_first_mark is_slash (line ++ b ∷ []))
+          ≡ part_bytes (after_first_mark is_slash line)
+      by true some = ap part_bytes (after-marked is_slash line (b ∷ []) some) ∙ part_bytes-separator (after_first_mark is_slash line) b is
       by false none = ap part_bytes (after-unmarked is_slash line b none ∙ sym (after_none is_slash line none))
 
   -- another byte goes on with the word of the part that goes on
   write_goes : is_separator b ≡ false → list_any is_slash line ≡ false
-      → part_bytes (before is_slash (line ++ b ∷ [])) ≡ part_bytes (before is_slash line) ++ pair_of (unpaired (since is_separator line)) b
+      → part_bytes (before is_slash (line ++ b ∷ [])) ≡ part_bytes (before is_slash line)
+      ++ byte_after_digit (unpaired (since is_separator line)) b
   write_goes other none =
       let goes : before is_slash (line ++ b ∷ []) ≡ line ++ b ∷ [] = before-unmarked is_slash line (b ∷ []) none
       ∙ rw (not_slash b other) refl in
       ap part_bytes goes ∙ part_bytes-other line b other
-      ∙ ap (λ l. part_bytes l ++ pair_of (unpaired (since is_separator line)) b) (sym (before_none is_slash line none))
+      ∙ ap (λ l. part_bytes l ++ byte_after_digit (unpaired (since is_separator line)) b) (sym (before_none is_slash line none))
 
   -- the read part with a digit more
   read_goes : is_separator b ≡ false → list_any is_slash line ≡ true
-      → part_bytes (after is_slash (line ++ b ∷ [])) ≡ part_bytes (after is_slash line) ++ pair_of (unpaired (since is_separator line)) b
+      → part_bytes (after_first_mark is_slash (line ++ b ∷ [])) ≡ part_bytes (after_first_mark is_slash line)
+      ++ byte_after_digit (unpaired (since is_separator line)) b
   read_goes other some =
-      ap part_bytes (after-marked is_slash line (b ∷ []) some) ∙ part_bytes-other (after is_slash line) b other
-      ∙ ap (λ l. part_bytes (after is_slash line) ++ pair_of (unpaired l) b) (sym (since_after line some))
+      ap part_bytes (after-marked is_slash line (b ∷ []) some) ∙ part_bytes-other (after_first_mark is_slash line) b other
+      ∙ ap (λ l. part_bytes (after_first_mark is_slash line) ++ byte_after_digit (unpaired l) b) (sym (since_after line some))
 
 -- the part with the byte that a digit makes with the one before it, where there is one
 abbrev pub part_after : Option ℕ → Collected → ℕ → Collected
@@ -200,7 +206,7 @@ part_after None part byte = part
 part_after (Some high) part byte = part_takes part (byte_of high byte)
 
 -- a part with the byte of a pair, if there is one
-part_of-pair : (bytes : List ℕ) (d : Option ℕ) (b : ℕ) → part_of (bytes ++ pair_of d b) ≡ part_after d (part_of bytes) b
+part_of-pair : (bytes : List ℕ) (d : Option ℕ) (b : ℕ) → part_of (bytes ++ byte_after_digit d b) ≡ part_after d (part_of bytes) b
 part_of-pair bytes None b = ap part_of (append-nil bytes)
 part_of-pair bytes (Some high) b = part_of-snoc bytes (byte_of high b)
 
@@ -211,16 +217,17 @@ module _ (line : List ℕ) (b : ℕ) (other : is_separator b ≡ false) where
       ≡ cond s (part_of (part_bytes (before is_slash line))) (part_after d (part_of (part_bytes (before is_slash line))) b)
   write_field d true isd iss = ap (λ l. part_of (part_bytes l)) (before-marked is_slash line (b ∷ []) iss)
   write_field d false isd iss =
-      ap part_of (write_goes line b other iss ∙ ap (λ e. part_bytes (before is_slash line) ++ pair_of e b) isd)
+      ap part_of (write_goes line b other iss ∙ ap (λ e. part_bytes (before is_slash line) ++ byte_after_digit e b) isd)
       ∙ part_of-pair (part_bytes (before is_slash line)) d b
 
   -- the read part as the line keeps it
   read_field : (d : Option ℕ) (s : Bool) → unpaired (since is_separator line) ≡ d → list_any is_slash line ≡ s
-      → part_of (part_bytes (after is_slash (line ++ b ∷ [])))
-      ≡ cond s (part_after d (part_of (part_bytes (after is_slash line))) b) (part_of (part_bytes (after is_slash line)))
+      → part_of (part_bytes (after_first_mark is_slash (line ++ b ∷ [])))
+      ≡ cond s (part_after d (part_of (part_bytes (after_first_mark is_slash line))) b)
+      (part_of (part_bytes (after_first_mark is_slash line)))
   read_field d true isd iss =
-      ap part_of (read_goes line b other iss ∙ ap (λ e. part_bytes (after is_slash line) ++ pair_of e b) isd)
-      ∙ part_of-pair (part_bytes (after is_slash line)) d b
+      ap part_of (read_goes line b other iss ∙ ap (λ e. part_bytes (after_first_mark is_slash line) ++ byte_after_digit e b) isd)
+      ∙ part_of-pair (part_bytes (after_first_mark is_slash line)) d b
   read_field d false isd iss = ap (λ l. part_of (part_bytes l)) (after-unmarked is_slash line b iss ∙ sym (after_none is_slash line iss))
 
 -- ---- the flags
@@ -230,22 +237,23 @@ slash-snoc : (line : List ℕ) (b : ℕ) → list_any is_slash (line ++ b ∷ []
 slash-snoc line b = list_any-append is_slash line (b ∷ []) ∙ ap (λ c. list_any is_slash line || c) (or-false (is_slash b))
 
 -- a second slash
-more-snoc : (line : List ℕ) (b : ℕ) → list_any is_slash (after is_slash (line ++ b ∷ []))
-    ≡ (list_any is_slash (after is_slash line) || (list_any is_slash line && is_slash b))
+more-snoc : (line : List ℕ) (b : ℕ) → list_any is_slash (after_first_mark is_slash (line ++ b ∷ []))
+    ≡ (list_any is_slash (after_first_mark is_slash line) || (list_any is_slash line && is_slash b))
 more-snoc line b = by (list_any is_slash line) refl
   where
     by : (c : Bool) → list_any is_slash line ≡ c
-        → list_any is_slash (after is_slash (line ++ b ∷ [])) ≡ (list_any is_slash (after is_slash line) || (c && is_slash b))
-    by true some = ap (list_any is_slash) (after-marked is_slash line (b ∷ []) some) ∙ slash-snoc (after is_slash line) b
+        → list_any is_slash (after_first_mark is_slash (line ++ b ∷ []))
+        ≡ (list_any is_slash (after_first_mark is_slash line) || (c && is_slash b))
+    by true some = ap (list_any is_slash) (after-marked is_slash line (b ∷ []) some) ∙ slash-snoc (after_first_mark is_slash line) b
     by false none = ap (list_any is_slash) (after-unmarked is_slash line b none) ∙ rw (after_none is_slash line none) refl
 
 -- a line without a slash has none after it either
-no_more : (line : List ℕ) → list_any is_slash line ≡ false → list_any is_slash (after is_slash line) ≡ false
+no_more : (line : List ℕ) → list_any is_slash line ≡ false → list_any is_slash (after_first_mark is_slash line) ≡ false
 no_more line none = ap (list_any is_slash) (after_none is_slash line none)
 
 -- a slash was seen where the line has one
 pub has_slash-is : (line : List ℕ) → has_slash (slashes_of line) ≡ list_any is_slash line
-has_slash-is line = by (list_any is_slash line) (list_any is_slash (after is_slash line))
+has_slash-is line = by (list_any is_slash line) (list_any is_slash (after_first_mark is_slash line))
   where
     by : (any more : Bool) → has_slash (cond any (cond more slash.More slash.One) slash.None) ≡ any
     by true true = refl
@@ -253,8 +261,8 @@ has_slash-is line = by (list_any is_slash line) (list_any is_slash (after is_sla
     by false more = refl
 
 -- a second slash was seen where the line has two
-pub has_more-is : (line : List ℕ) → has_more_slashes (slashes_of line) ≡ list_any is_slash (after is_slash line)
-has_more-is line = by (list_any is_slash line) (list_any is_slash (after is_slash line)) (no_more line)
+pub has_more-is : (line : List ℕ) → has_more_slashes (slashes_of line) ≡ list_any is_slash (after_first_mark is_slash line)
+has_more-is line = by (list_any is_slash line) (list_any is_slash (after_first_mark is_slash line)) (no_more line)
   where
     by : (any more : Bool) → (any ≡ false → more ≡ false)
         → has_more_slashes (cond any (cond more slash.More slash.One) slash.None) ≡ more
@@ -267,7 +275,7 @@ slashes-snoc : (line : List ℕ) (b : ℕ)
     → slashes_of (line ++ b ∷ []) ≡ cond (is_slash b) (one_slash_more (slashes_of line)) (slashes_of line)
 slashes-snoc line b =
     (λ i. cond (slash-snoc line b i) (cond (more-snoc line b i) slash.More slash.One) slash.None)
-    ∙ by (list_any is_slash line) (list_any is_slash (after is_slash line)) (is_slash b) (no_more line)
+    ∙ by (list_any is_slash line) (list_any is_slash (after_first_mark is_slash line)) (is_slash b) (no_more line)
   where
     by : (any more one : Bool) → (any ≡ false → more ≡ false)
         → cond (any || one) (cond (more || (any && one)) slash.More slash.One) slash.None
@@ -283,15 +291,16 @@ slashes-snoc line b =
 
 -- a word that ends is judged
 bad-separator : (line : List ℕ) (b : ℕ) → is_separator b ≡ true
-    → (list_any is_bad_word (ended is_separator (line ++ b ∷ [])) || not (list_all is_hex_digit (since is_separator (line ++ b ∷ []))))
-    ≡ ((list_any is_bad_word (ended is_separator line) || not (list_all is_hex_digit (since is_separator line)))
+    →
+    (list_any is_bad_word (ended_pieces is_separator (line ++ b ∷ [])) || not (list_all is_hex_digit (since is_separator (line ++ b ∷ []))))
+    ≡ ((list_any is_bad_word (ended_pieces is_separator line) || not (list_all is_hex_digit (since is_separator line)))
     || is_some (unpaired (since is_separator line)))
 bad-separator line b is =
     rw (ended-mark is_separator line b is, since-mark is_separator line b is) (
-    or-false (list_any is_bad_word (ended is_separator line ++ since is_separator line ∷ []))
-    ∙ list_any-append is_bad_word (ended is_separator line) (since is_separator line ∷ [])
-    ∙ ap (λ c. list_any is_bad_word (ended is_separator line) || c) (or-false (is_bad_word (since is_separator line)))
-    ∙ sym (or_assoc (list_any is_bad_word (ended is_separator line)) (not (list_all is_hex_digit (since is_separator line)))
+    or-false (list_any is_bad_word (ended_pieces is_separator line ++ since is_separator line ∷ []))
+    ∙ list_any-append is_bad_word (ended_pieces is_separator line) (since is_separator line ∷ [])
+    ∙ ap (λ c. list_any is_bad_word (ended_pieces is_separator line) || c) (or-false (is_bad_word (since is_separator line)))
+    ∙ sym (or_assoc (list_any is_bad_word (ended_pieces is_separator line)) (not (list_all is_hex_digit (since is_separator line)))
     (is_some (unpaired (since is_separator line))))
     )
 
@@ -304,12 +313,15 @@ not_both false false h = refl
 
 -- a word that goes on is judged by its bytes so far
 bad-other : (line : List ℕ) (b : ℕ) → is_separator b ≡ false
-    → (list_any is_bad_word (ended is_separator (line ++ b ∷ [])) || not (list_all is_hex_digit (since is_separator (line ++ b ∷ []))))
-    ≡ ((list_any is_bad_word (ended is_separator line) || not (list_all is_hex_digit (since is_separator line))) || not (is_hex_digit b))
+    →
+    (list_any is_bad_word (ended_pieces is_separator (line ++ b ∷ [])) || not (list_all is_hex_digit (since is_separator (line ++ b ∷ []))))
+    ≡ ((list_any is_bad_word (ended_pieces is_separator line) || not (list_all is_hex_digit (since is_separator line)))
+    || not (is_hex_digit b))
 bad-other line b other =
     rw (ended-other is_separator line b other, since-other is_separator line b other) (
-    ap (λ c. list_any is_bad_word (ended is_separator line) || not c) (list_all-append is_hex_digit (since is_separator line) (b ∷ []))
-    ∙ not_both (list_any is_bad_word (ended is_separator line)) (list_all is_hex_digit (since is_separator line)) (is_hex_digit b)
+    ap (λ c. list_any is_bad_word (ended_pieces is_separator line) || not c)
+    (list_all-append is_hex_digit (since is_separator line) (b ∷ []))
+    ∙ not_both (list_any is_bad_word (ended_pieces is_separator line)) (list_all is_hex_digit (since is_separator line)) (is_hex_digit b)
     )
 
 -- ---- the line
@@ -342,10 +354,11 @@ module _ (line : List ℕ) (b : ℕ) (other : is_separator b ≡ false) where
       → plain_line (line ++ b ∷ []) ≡ record {
         kind = kind_takes (kind_of line) b;
         write = cond s (part_of (part_bytes (before is_slash line))) (part_after d (part_of (part_bytes (before is_slash line))) b);
-        read = cond s (part_after d (part_of (part_bytes (after is_slash line))) b) (part_of (part_bytes (after is_slash line)));
+        read = cond s (part_after d (part_of (part_bytes (after_first_mark is_slash line))) b)
+            (part_of (part_bytes (after_first_mark is_slash line)));
         digit = digit_after d b;
         slashes = slashes_of line;
-        is_bad = (list_any is_bad_word (ended is_separator line) || not (list_all is_hex_digit (since is_separator line))) || not
+        is_bad = (list_any is_bad_word (ended_pieces is_separator line) || not (list_all is_hex_digit (since is_separator line))) || not
             (is_hex_digit b);
         is_returned = false;
       }

@@ -29,15 +29,15 @@ pub struct OpenLine {
 
 impl OpenLine {
     ghost use Rattle.std.specs.Prelude.{[], option_map, IfOk, IfErr, IfSome, Ok, Err, Some};
-    ghost use Rattle.pm_trace.specs.OpenLines.{line_of, line_takes, plain_takes, word_ends, word_goes_on, with_byte, is_begun};
+    ghost use Rattle.pm_trace.specs.OpenLines.{open_line_of, line_takes, plain_takes, word_ends, word_goes_on, part_with_byte, is_begun};
     ghost use Rattle.pm_trace.specs.OpenLines.{is_skipped_kind, open_read, open_told, Passes, IsAtLineFeed};
     ghost use Rattle.pm_trace.specs.ShownLines.{judged_in};
     ghost use Rattle.pm_trace.specs.Trace.{line_read};
 
     /// A line without bytes.
-    #[tactic(auto, unfolding(crate::specs::OpenLines::line_of, crate::specs::OpenLines::plain_line))]
+    #[tactic(auto, unfolding(crate::specs::OpenLines::open_line_of, crate::specs::OpenLines::plain_line))]
     pub fn new() -> OpenLine
-        ensures { result ≡ line_of [] }
+        ensures { result ≡ open_line_of [] }
     {
         OpenLine {
             kind: LineKind::Empty,
@@ -51,7 +51,7 @@ impl OpenLine {
     }
 
     /// A line of these bytes, each of which counts.
-    #[tactic(auto, using(crate::specs::Lemmas::OpenLines::none_of))]
+    #[tactic(auto, using(crate::specs::Lemmas::OpenLines::empty_line_is_plain))]
     pub(crate) fn of(line: &[u8]) -> OpenLine
         ensures { open_read result ≡ line_read line.now }
     {
@@ -63,9 +63,9 @@ impl OpenLine {
     }
 
     /// Leaves no byte.
-    #[tactic(auto, unfolding(crate::specs::OpenLines::line_of, crate::specs::OpenLines::plain_line))]
+    #[tactic(auto, unfolding(crate::specs::OpenLines::open_line_of, crate::specs::OpenLines::plain_line))]
     pub fn clear(&mut self)
-        ensures { self.new ≡ line_of [] }
+        ensures { self.new ≡ open_line_of [] }
     {
         self.kind = LineKind::Empty;
         self.write.clear();
@@ -171,7 +171,7 @@ impl OpenLine {
 
     // Takes a byte that two digits wrote, for the part that goes on.
     fn take_byte(&mut self, byte: u8)
-        ensures { self.new ≡ with_byte self.old byte }
+        ensures { self.new ≡ part_with_byte self.old byte }
     {
         match self.slashes {
             Slashes::None => self.write.take(byte),

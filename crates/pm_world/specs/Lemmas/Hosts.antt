@@ -2,7 +2,7 @@
 use Rattle.std.specs.Prelude.{◌≡◌, ℕ, List, refl}
 use Rattle.std.proofs.Common.{ap₂}
 use Rattle.pm_device.specs.declared.config.Config.{Config}
-use Rattle.pm_host.specs.Now.{now as host_now}
+use Rattle.pm_host.specs.Now.{host_now}
 use Rattle.pm_world.specs.declared.event.Event.{Event}
 use Rattle.pm_world.specs.Life.{now, state_of}
 use Rattle.pm_world.specs.Setup.{setup_of}

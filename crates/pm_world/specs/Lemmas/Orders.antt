@@ -12,7 +12,7 @@ use Rattle.pm_host.specs.Transcript as host
 use Rattle.pm_world.specs.declared.event.Event.{Event}
 use Rattle.pm_world.specs.declared.event.Event.TheVariants.{Deliver, Exchange, Finish, RestartHost, RestartDevice}
 use Rattle.pm_world.specs.Life.{now}
-use Rattle.pm_world.specs.Retelling.{accepts, open_pending, pending_of, taken_at, takes, told, told_beside}
+use Rattle.pm_world.specs.Retelling.{accepts, open_pending, pending_of, taken_at, takes, steps_of_event, told_beside}
 use Rattle.pm_world.specs.State.{asked}
 
 -- an event that asks for no job is told as no order
@@ -51,9 +51,9 @@ accepts-order cell word job h = cc
 
 -- An event that is told as an order asked for it.
 pub told-asked : (config : Config) (passes : ℕ) (before : List Event) (event : Event) (cell : Cell) (word : ℕ) →
-    told config passes before event ≡ Accept (pending.Order cell word) ∷ [] →
+    steps_of_event config passes before event ≡ Accept (pending.Order cell word) ∷ [] →
     asked (now config passes before) event ≡ Some (host.Order cell word)
-unfolding told
+unfolding steps_of_event
 told-asked config passes before event cell word is = go (asked (now config passes before) event) is where
   go : (o : Option host.Job) →
       option_map_or (λ job. accepts (pending_of job)) o (told_beside config passes before event) ≡ Accept (pending.Order cell word) ∷ [] →

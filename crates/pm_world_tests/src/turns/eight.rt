@@ -17,34 +17,13 @@ const EIGHT: Config = Config {
     count: 8,
     starts: [
         OUTPUT,
-        OutputStart {
-            mode: 0x15,
-            ..OUTPUT
-        },
-        OutputStart {
-            mode: 0x16,
-            ..OUTPUT
-        },
-        OutputStart {
-            mode: 0x17,
-            ..OUTPUT
-        },
-        OutputStart {
-            mode: 0x18,
-            ..OUTPUT
-        },
-        OutputStart {
-            mode: 0x19,
-            ..OUTPUT
-        },
-        OutputStart {
-            mode: 0x1A,
-            ..OUTPUT
-        },
-        OutputStart {
-            mode: 0x1B,
-            ..OUTPUT
-        },
+        with! { OutputStart, OUTPUT; mode: 0x15 },
+        with! { OutputStart, OUTPUT; mode: 0x16 },
+        with! { OutputStart, OUTPUT; mode: 0x17 },
+        with! { OutputStart, OUTPUT; mode: 0x18 },
+        with! { OutputStart, OUTPUT; mode: 0x19 },
+        with! { OutputStart, OUTPUT; mode: 0x1A },
+        with! { OutputStart, OUTPUT; mode: 0x1B },
     ],
     protect: 0x00,
     coefficients: Coefficients { m: 1, b: 0, r: 0 },
@@ -55,15 +34,12 @@ fn eight() -> Config {
 }
 
 // The request of VOUT_MODE of each, and the write of 1 V in its format.
+#[rattlefmt::skip]
 static LEARNS: [(&str, &str); 8] = [
-    ("B0 06 02 00 20", "B0 05 04 00 21 00 10 A2"),
-    ("B0 06 02 01 20", "B0 05 04 01 21 00 08 FC"),
-    ("B0 06 02 02 20", "B0 05 04 02 21 00 04 E2"),
-    ("B0 06 02 03 20", "B0 05 04 03 21 00 02 E6"),
-    ("B0 06 02 04 20", "B0 05 04 04 21 00 01 8D"),
-    ("B0 06 02 05 20", "B0 05 04 05 21 80 00 2A"),
-    ("B0 06 02 06 20", "B0 05 04 06 21 40 00 FD"),
-    ("B0 06 02 07 20", "B0 05 04 07 21 20 00 1E"),
+    ("B0 06 02 00 20", "B0 05 04 00 21 00 10 A2"), ("B0 06 02 01 20", "B0 05 04 01 21 00 08 FC"),
+    ("B0 06 02 02 20", "B0 05 04 02 21 00 04 E2"), ("B0 06 02 03 20", "B0 05 04 03 21 00 02 E6"),
+    ("B0 06 02 04 20", "B0 05 04 04 21 00 01 8D"), ("B0 06 02 05 20", "B0 05 04 05 21 80 00 2A"),
+    ("B0 06 02 06 20", "B0 05 04 06 21 40 00 FD"), ("B0 06 02 07 20", "B0 05 04 07 21 20 00 1E"),
 ];
 
 #[test]

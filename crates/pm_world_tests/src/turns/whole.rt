@@ -11,27 +11,20 @@ use std::process::Abort;
 // Passes, WRITE_PROTECT, the events, and the end: an order of 34CDh for a cell that holds 1000h, which WRITE_PROTECT 40h
 // forbids; a check; a learn; and a store. A write is heard whole or lost, and acknowledged or not; a read comes whole, or
 // its answer is lost.
+#[rattlefmt::skip]
 static ENDS: [(u8, u16, &str, JobEnd); 18] = [
     (1, 0x00, "order whole ack read", JobEnd::Done),
     (1, 0x00, "order whole nack read", JobEnd::Done),
     (1, 0x00, "order lost whole ack read", JobEnd::Done),
-    (1, 0x00, "order lost ack read", DIFFERS),
-    (1, 0x00, "order lost nack read", DIFFERS),
+    (1, 0x00, "order lost ack read", DIFFERS), (1, 0x00, "order lost nack read", DIFFERS),
     (1, 0x40, "order whole ack read", DIFFERS),
     (2, 0x00, "order lost ack read whole ack read", JobEnd::Done),
     (2, 0x00, "order lost ack mute whole nack read", JobEnd::Done),
     (2, 0x00, "order lost ack mute lost ack read", DIFFERS),
     (2, 0x40, "order lost ack read whole ack read", DIFFERS),
-    (
-        3,
-        0x40,
-        "order whole ack mute whole ack mute whole ack read",
-        DIFFERS,
-    ),
-    (1, 0x00, "check read", JobEnd::Done),
-    (2, 0x00, "check mute read", JobEnd::Done),
-    (2, 0x00, "learn mute read", JobEnd::Learned),
-    (1, 0x00, "store whole ack", JobEnd::Done),
+    (3, 0x40, "order whole ack mute whole ack mute whole ack read", DIFFERS),
+    (1, 0x00, "check read", JobEnd::Done), (2, 0x00, "check mute read", JobEnd::Done),
+    (2, 0x00, "learn mute read", JobEnd::Learned), (1, 0x00, "store whole ack", JobEnd::Done),
     (1, 0x00, "store whole nack", JobEnd::Unknown),
     (2, 0x00, "store whole nack whole ack", JobEnd::Done),
     (2, 0x40, "store whole nack whole nack", JobEnd::Unknown),

@@ -2,7 +2,7 @@ use Rattle.std.proofs.Common.{◌≡◌, ◌∙◌, ◌++◌, [], sym, ap}
 use Rattle.std.proofs.lemmas.Result.{err_from_is_err_and}
 use Rattle.pm_lines.specs.Engine.{over}
 use Rattle.pm_decode.specs.CaptureText.{capture_text, counts_text}
-use Rattle.pm_decode.specs.Capturing.{kept_at_end, told_at_end}
+use Rattle.pm_decode.specs.Capturing.{capture_at_end, told_at_capture_end}
 use Rattle.pm_decode.proofs.Captures.{all_told, text_cut, unmade, whole_input, end_all, end_front, end_counts, end_memory, none_all}
 use Rattle.pm_decode.proofs.Captures.{none_front, none_end}
 use Rattle.pm_decode.proofs.telling.tell_all.Goals as goal
@@ -49,7 +49,7 @@ returns-in_err-put-2-clause-ends g c =
     let options = c.args.options.now in
     let (read, sound, empty, input, written, at_end) = c.in_ok-hear_pieces.ensures.ok in
     let old = c.hear_pieces.new.capture in
-    let rest = told_at_end old ++ counts_text old.options (kept_at_end old).heard in
+    let rest = told_at_capture_end old ++ counts_text old.options (capture_at_end old).heard in
     let shown : c.bytes.result.now ≡ rest = c.bytes.ensures ∙ c.in_ok-tell_end.ensures.told ∙ ap (λ l. l ++ rest) empty in
     rw (p.1, p.2, c.in_err-put-2.ensures.fault) (text_cut options (over g.R.Read.remaining c.args.reader.now c.hear_pieces.new.reader
     g.W.Write.contents c.args.writer.now c.put-2.new.self) read c.in_err-put-2.ensures.failed input
@@ -61,7 +61,7 @@ returns-clause-ends g c =
     let options = c.args.options.now in
     let (read, sound, empty, input, written, at_end) = c.in_ok-hear_pieces.ensures.ok in
     let old = c.hear_pieces.new.capture in
-    let rest = told_at_end old ++ counts_text old.options (kept_at_end old).heard in
+    let rest = told_at_capture_end old ++ counts_text old.options (capture_at_end old).heard in
     let shown : c.bytes.result.now ≡ rest = c.bytes.ensures ∙ c.in_ok-tell_end.ensures.told ∙ ap (λ l. l ++ rest) empty in
     all_told options (over g.R.Read.remaining c.args.reader.now c.hear_pieces.new.reader
     g.W.Write.contents c.args.writer.now c.put-2.new.self) read c.in_ok-put-2.ensures.failed input _

@@ -4,13 +4,13 @@ use Rattle.pm_host.specs.declared.image.HostImage.{HostImage}
 use Rattle.pm_host.specs.declared.stage.Stage.{Stage}
 use Rattle.pm_host.specs.declared.state.State.{State}
 use Rattle.pm_host.specs.Image.{held, host_of, image_mark, image_version, is_current, is_sound, sound_in, stage_held}
-use Rattle.pm_host.specs.Memory.{image_of, stage_image, state_image, AreFormats, IsImage, IsKnown, IsState}
+use Rattle.pm_host.specs.Memory.{image_of, stage_image, state_image, AreFormatImages, IsImage, IsKnown, IsState}
 use Rattle.pm_host.specs.Summary.{Summary}
 use Rattle.pm_host.proofs.laws.images_are_meanings.Goals as goal
 
 -- what it holds beside its open job
 state-meant : (state : State) (stage : Option Stage) → IsState state → state ≡ state_image (held stage state)
-unfolding AreFormats IsKnown
+unfolding AreFormatImages IsKnown
 state-meant state stage is =
     ap (λ n. record state { unused = n }) is.unused
     ∙ ap₂ (λ f k. record state { unused = 0; formats = f; known = k }) is.formats is.known

@@ -1,13 +1,13 @@
 use Rattle.std.proofs.Common.{sym, ap}
-use Rattle.pm_host.specs.Now.{now}
-use Rattle.pm_host.specs.Summary.{next, step_of}
+use Rattle.pm_host.specs.Now.{host_now}
+use Rattle.pm_host.specs.Summary.{host_next, step_of}
 use Rattle.pm_host.proofs.Jobs.{now-nil, change-now, IsJob-told, now-format, next-keeps, known_now-possible, known_now-standing}
 use Rattle.pm_host.proofs.Jobs.{known_now-seen, now-busy, now-sending, now-sound}
 use Rattle.pm_host.specs.Marks.{marks}
 use Rattle.pm_host.proofs.laws.transcripts_are_followed.Goals as goal
 
 pub returns : goal.returns
-unfolding now next step_of
+unfolding host_now host_next step_of
 returns c =
     let law = c.cells_have_places.ensures in
     record {

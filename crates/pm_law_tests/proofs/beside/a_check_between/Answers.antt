@@ -6,7 +6,7 @@ use Rattle.pm_device.specs.Held.{Held}
 use Rattle.pm_host.specs.declared.fault.HostFault.{HostFault}
 use Rattle.pm_host.specs.declared.job.Job.TheVariants as job
 use Rattle.pm_host.specs.Jobs.{Begins, begin_fault}
-use Rattle.pm_host.specs.Summary.{Summary, next as host_next}
+use Rattle.pm_host.specs.Summary.{Summary, host_next}
 use Rattle.pm_host.specs.Transcript as host
 use Rattle.pm_world.specs.declared.event.Event.TheVariants.{Check}
 use Rattle.pm_world.specs.State.{next, refused}

@@ -5,7 +5,7 @@ use Rattle.pm_limits.specs.Part.{all_registers}
 use Rattle.pm_rail.specs.Registers.{wants_of}
 use Rattle.pm_rail.specs.Survey.{is_surveyed, wanted_in}
 use Rattle.pm_part_laws.specs.Happenings.{Happening, IsLifeBeside, beside}
-use Rattle.pm_part_laws.specs.Surveys.{AreKnownSince}
+use Rattle.pm_part_laws.specs.Surveys.{AreKnownSinceBeside}
 use Rattle.pm_law_tests.proofs.Uses.{lacks-none}
 use Rattle.pm_law_tests.proofs.beside.a_surveyed_part.Goals as goal
 
@@ -21,5 +21,5 @@ returns g c v later before band at here are steady surveyed gives =
     ∙ (ap (λ (s : Summary). is_surveyed all_registers v s) (sym c.requires.host_is) ∙ surveyed)) in
     law.one held passes all_registers v.output (wants_of (wanted_in v.plan)) band g.life.happened lived here
     (c.plans_hold_in_lives.ensures.whole held.config (beside held passes g.life.happened).device.words v.output)
-    (subst (λ (l : List Happening). AreKnownSince held passes all_registers v.output (wants_of (wanted_in v.plan)) l) (sym at) known)
+    (subst (λ (l : List Happening). AreKnownSinceBeside held passes all_registers v.output (wants_of (wanted_in v.plan)) l) (sym at) known)
     (ap (λ (s : Summary). band_at all_registers s v.output) (sym c.requires.host_is) ∙ gives)

@@ -7,7 +7,7 @@ use Rattle.pm_device.specs.declared.converter.Ending.TheVariants.{Restart}
 use Rattle.pm_device.specs.declared.converter.Heard.{Heard as Reply}
 use Rattle.pm_device.specs.Effect as device
 use Rattle.pm_device.specs.Held.{Held}
-use Rattle.pm_device.specs.History.{next}
+use Rattle.pm_device.specs.History.{device_next}
 use Rattle.pm_device.specs.Reply.{reply_of}
 use Rattle.pm_delivery.specs.declared.delivery.Delivery.{Delivery}
 use Rattle.pm_delivery.specs.declared.heard.Heard.{Heard}
@@ -15,7 +15,7 @@ use Rattle.pm_delivery.specs.declared.question.Question.{Question}
 use Rattle.pm_delivery.specs.declared.question.Question.TheVariants.{Before}
 use Rattle.pm_delivery.specs.Deliveries.{heard_of, with_heard}
 use Rattle.pm_delivery.specs.Heard.{heard_after}
-use Rattle.pm_delivery.specs.Questions.{answer_in, question_code, question_size}
+use Rattle.pm_delivery.specs.Questions.{answer_to_question, question_code, question_size}
 use Rattle.pm_world.specs.Legal.{is_legal_return}
 use Rattle.pm_world.specs.Legal as legal
 use Rattle.pm_part_laws.specs.Happenings.{Hears, beside}
@@ -42,8 +42,8 @@ asked : (life : LookLife) (d : Delivery) (part : Held) (address : ℕ) (question
     let request = paged_request address d.output (question_code question) in
     LooksAt (record life { later = Hears request Restart ∷ life.later })
     (with_heard d question (heard_after (heard_of d question)
-    (answer_in address d.output question (legal.answer_in (reply_of part request Restart)))))
-    (next part (device.Hearing request Restart))
+    (answer_to_question address d.output question (legal.answer_in (reply_of part request Restart)))))
+    (device_next part (device.Hearing request Restart))
 unfolding beside
 asked life d part address question looks own =
     let request = paged_request address d.output (question_code question) in
@@ -51,14 +51,14 @@ asked life d part address question looks own =
     let then = (beside life.held life.passes (life.later ++ life.before)).device in
     record {
       look = subst (λ (a : ℕ). IsLook life.held life.passes life.before
-          (with_heard d question (heard_after (heard_of d question) (answer_in a d.output question bytes))) (Hears request Restart ∷ life.later)) (sym own)
+          (with_heard d question (heard_after (heard_of d question) (answer_to_question a d.output question bytes))) (Hears request Restart ∷ life.later)) (sym own)
           (hears d question request Restart bytes life.later looks.look
           (subst (λ (p : Held). CameBack p (paged_request life.held.config.addr d.output (question_code question)) (question_size question)
           request Restart bytes) looks.device_is
           (subst (λ (a : ℕ). CameBack part (paged_request a d.output (question_code question)) (question_size question) request Restart bytes) own
           (own-came part request (question_size question)))));
       here = subst (λ (o : ℕ). o < life.held.config.count) (sym (same-output d question _)) looks.here;
-      device_is = ap (λ (p : Held). next p (device.Hearing request Restart)) looks.device_is;
+      device_is = ap (λ (p : Held). device_next p (device.Hearing request Restart)) looks.device_is;
     }
 
 pub returns : goal.returns
@@ -71,9 +71,9 @@ returns g c =
     let sent = c.request-sent.ensures in
     let bytes = c.answer_in.ensures.value ∙ ap (λ (r : Reply). legal.answer_in r)
     (c.hear-reply.ensures.reply ∙ ap (λ (b : List ℕ). reply_of part b Restart) sent) in
-    let answer = c.answer_of-answer.ensures ∙ ap (λ (b : List ℕ). answer_in c.args.address d.output question b) bytes in
+    let answer = c.answer_of-answer.ensures ∙ ap (λ (b : List ℕ). answer_to_question c.args.address d.output question b) bytes in
     let heard = c.hear.ensures ∙ ap (λ a. with_heard d question (heard_after (heard_of d question) a)) answer in
-    let after = c.hear-reply.ensures.after ∙ ap (λ (b : List ℕ). next part (device.Hearing b Restart)) sent in
+    let after = c.hear-reply.ensures.after ∙ ap (λ (b : List ℕ). device_next part (device.Hearing b Restart)) sent in
     subst (λ (p : Held). LooksAt life c.hear.new.self p) (sym after)
-    (subst (λ (n : Delivery). LooksAt life n (next part (device.Hearing request Restart))) (sym heard)
+    (subst (λ (n : Delivery). LooksAt life n (device_next part (device.Hearing request Restart))) (sym heard)
     (asked g.life d part c.args.address question c.requires.0 c.requires.1.0))

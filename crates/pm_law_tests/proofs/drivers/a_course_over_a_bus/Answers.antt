@@ -1,7 +1,7 @@
 use Rattle.std.proofs.Common.{subst}
 use Rattle.pm_course.specs.declared.frame_course.FrameCourse.{FrameCourse}
 use Rattle.pm_driver.specs.Courses.{RunsCourse}
-use Rattle.pm_law_tests.proofs.WishesHeld.{wishes-held}
+use Rattle.pm_law_tests.proofs.Uses.{wishes-held}
 use Rattle.pm_law_tests.proofs.drivers.a_course_over_a_bus.Goals as goal
 
 pub returns : goal.returns

@@ -4,8 +4,7 @@ use Rattle.pm_table.specs.Operation.{selected_register}
 use Rattle.pm_limits.specs.Part.{all_registers}
 use Rattle.pm_world.specs.declared.event.Event.{Event}
 use Rattle.pm_world.specs.Lived.{IsLived}
-use Rattle.pm_law_tests.proofs.Uses.{found-lived, has-all}
-use Rattle.pm_law_tests.proofs.Tries.{few-bytes}
+use Rattle.pm_law_tests.proofs.Uses.{found-lived, has-all, few-bytes}
 use Rattle.pm_law_tests.proofs.progress.a_byte_gets_there.Goals as goal
 
 pub returns : goal.returns

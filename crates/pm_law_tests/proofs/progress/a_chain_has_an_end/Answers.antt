@@ -1,4 +1,4 @@
-use Rattle.pm_law_tests.proofs.Tries.{few}
+use Rattle.pm_law_tests.proofs.Uses.{few}
 use Rattle.pm_law_tests.proofs.progress.a_chain_has_an_end.Goals as goal
 
 pub returns-clause-begins : goal.returns-clause-begins

@@ -5,8 +5,7 @@ use Rattle.pm_rail.specs.Registers.{wants_of}
 use Rattle.pm_world.specs.declared.event.Event.{Event}
 use Rattle.pm_world.specs.Life.{now}
 use Rattle.pm_world.specs.Lived.{IsLived}
-use Rattle.pm_law_tests.proofs.Uses.{found-lived}
-use Rattle.pm_law_tests.proofs.Tries.{few}
+use Rattle.pm_law_tests.proofs.Uses.{found-lived, few}
 use Rattle.pm_law_tests.proofs.progress.a_course_gets_there.Goals as goal
 
 pub returns : goal.returns

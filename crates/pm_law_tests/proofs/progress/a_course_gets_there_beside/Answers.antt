@@ -4,8 +4,7 @@ use Rattle.pm_table.specs.Operation.{selected_register}
 use Rattle.pm_limits.specs.Part.{all_registers}
 use Rattle.pm_rail.specs.Registers.{wants_of}
 use Rattle.pm_part_laws.specs.Happenings.{Happening, IsLifeBeside, beside}
-use Rattle.pm_law_tests.proofs.Tries.{few, few-bytes}
-use Rattle.pm_law_tests.proofs.Uses.{has-all}
+use Rattle.pm_law_tests.proofs.Uses.{few, few-bytes, has-all}
 use Rattle.pm_law_tests.proofs.progress.a_course_gets_there_beside.Goals as goal
 
 pub returns-clause-wishes : goal.returns-clause-wishes

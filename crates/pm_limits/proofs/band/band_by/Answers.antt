@@ -7,20 +7,20 @@ use Rattle.pm_model.specs.Commanded.{limited}
 use Rattle.pm_host.specs.Image.{held}
 use Rattle.pm_limits.specs.declared.ends.Side.{Side}
 use Rattle.pm_limits.specs.declared.ends.Side.TheVariants.{Lowest, Highest}
-use Rattle.pm_limits.specs.Band.{end_with, known_of, reach, word_end}
+use Rattle.pm_limits.specs.Band.{end_with, known_of_output, reach, word_end}
 use Rattle.pm_limits.specs.Ends.{farthest_of}
-use Rattle.pm_limits.specs.OutputEnds.{selected_value, word_on}
+use Rattle.pm_limits.specs.OutputEnds.{selected_end_value, word_on}
 use Rattle.pm_limits.proofs.band.band_by.Goals as goal
 
 pub returns : goal.returns
-unfolding end_with selected_value
+unfolding end_with selected_end_value
 returns c =
     let value = voltage_value c.args.format.now in
     let shape = voltage_shape c.args.format.now in
-    let known = known_of c.args.registers shape (held None c.args.host.now) c.args.output in
+    let known = known_of_output c.args.registers shape (held None c.args.host.now) c.args.output in
     let bytes = c.args.bytes.now in
     let ends = c.of-ends.result in
-    let at : (side : Side) → limited (selected_value side value ends (farthest_of side (selected_value side value ends) bytes))
+    let at : (side : Side) → limited (selected_end_value side value ends (farthest_of side (selected_end_value side value ends) bytes))
     (value (word_on side ends.min)) (value (word_on side ends.max)) ≡ end_with side shape known bytes
     = λ side.
     let far = fun_ext (λ (byte : ℕ). ap value (c.of-ends.ensures.selected side byte)) in

@@ -1,8 +1,8 @@
 use Rattle.std.proofs.Common.{◌≡◌, ◌∙◌, [], ap, sym}
 use Rattle.std.proofs.lemmas.Result.{err_from_is_err_and}
 use Rattle.pm_lines.specs.Engine.{over}
-use Rattle.pm_log.specs.Texts.{Kept, ended, finished, log_end, log_text}
-use Rattle.pm_log.specs.Verdicts.{end_of, verdict_text}
+use Rattle.pm_log.specs.Texts.{Kept, ended_text, last_line_ended, log_end, log_text}
+use Rattle.pm_log.specs.Verdicts.{log_end_of, verdict_text}
 use Rattle.pm_log.specs.declared.checking.LogEnd.TheVariants.{Refused}
 use Rattle.pm_log.proofs.Texts.{empty_end, all_said, front_said, all_now, none_now, room_now, finished_is}
 use Rattle.pm_log.proofs.checking.check_all.Goals as goal
@@ -39,7 +39,8 @@ returns-in_err-put-2 g c =
     let (read, input, taken, at_end) = c.in_ok-take_all.ensures.all in
     let old = c.take_all.new.log in
     let shown = c.as_bytes-2.ensures.value ∙ c.in_ok-text.ensures.text
-    ∙ ap (λ (k : Kept). verdict_text (ended (finished k))) taken.kept_is ∙ ap verdict_text (finished_is c.args.allowed.now.parts input) in
+    ∙ ap (λ (k : Kept). verdict_text (ended_text (last_line_ended k))) taken.kept_is
+    ∙ ap verdict_text (finished_is c.args.allowed.now.parts input) in
     rw (p.1, p.2, c.in_err-put-2.ensures.fault) (front_said c.args.allowed.now.parts (over g.R.Read.remaining c.args.reader.now c.take_all.new.reader
     g.W.Write.contents c.args.writer.now c.put-2.new.self) read c.in_err-put-2.ensures.failed input c.as_bytes-2.result.now
     (all_now _ _ _ input old taken at_end) shown c.in_err-put-2.ensures.front)
@@ -48,9 +49,9 @@ pub returns : goal.returns
 returns g c =
     let (read, input, taken, at_end) = c.in_ok-take_all.ensures.all in
     let old = c.take_all.new.log in
-    let kept = ap (λ (k : Kept). ended (finished k)) taken.kept_is ∙ finished_is c.args.allowed.now.parts input in
+    let kept = ap (λ (k : Kept). ended_text (last_line_ended k)) taken.kept_is ∙ finished_is c.args.allowed.now.parts input in
     let shown = c.as_bytes-2.ensures.value ∙ c.in_ok-text.ensures.text ∙ ap verdict_text kept in
     all_said c.args.allowed.now.parts (over g.R.Read.remaining c.args.reader.now c.take_all.new.reader
     g.W.Write.contents c.args.writer.now c.put-2.new.self) read c.in_ok-put-2.ensures.failed input c.as_bytes-2.result.now
-    c.end_of.result (all_now _ _ _ input old taken at_end) (c.end_of.ensures ∙ ap end_of (c.in_ok-text.ensures.end ∙ kept)) shown
+    c.end_of.result (all_now _ _ _ input old taken at_end) (c.end_of.ensures ∙ ap log_end_of (c.in_ok-text.ensures.end ∙ kept)) shown
     c.in_ok-put-2.ensures.all

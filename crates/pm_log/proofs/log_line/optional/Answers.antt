@@ -4,7 +4,7 @@ use Rattle.std.specs.Result.{IfOk}
 use Rattle.std.specs.Prelude.{bytes_eq}
 use Rattle.std.proofs.lemmas.Slice.Eq.{bytes_eq-Decides}
 use Rattle.pm_lines.specs.Lines.{WordsLeft}
-use Rattle.pm_text.specs.Readers.{IsNotNext, first_word, word}
+use Rattle.pm_text.specs.Readers.{IsNotNext, word_or_fault, word}
 use Rattle.pm_log.specs.Lines.{optional}
 use Rattle.pm_log.proofs.log_line.optional.Goals as goal
 
@@ -12,7 +12,7 @@ same_text : (text name : List ℕ) → text ≡ name → bytes_eq text name ≡ 
 same_text text name same = (bytes_eq-Decides text name).1 same
 
 -- it is the next
-taken : (name : List ℕ) (line : ℕ) (words : List (List ℕ)) (new : WordsLeft) → first_word line words ≡ Ok (name, new) →
+taken : (name : List ℕ) (line : ℕ) (words : List (List ℕ)) (new : WordsLeft) → word_or_fault line words ≡ Ok (name, new) →
     optional name (record { line = line; words = words }) ≡ Ok (true, new)
 taken name line [] new is = absurd (cc)
 taken name line (text ∷ words) new is =
@@ -22,7 +22,7 @@ taken name line (text ∷ words) new is =
     rw (same_text text name same) (ap (λ (l : WordsLeft). Ok (true, l)) left)
 
 -- it isn't
-other : (name : List ℕ) (line : ℕ) (words : List (List ℕ)) → IfOk (first_word line words) (λ next. bytes_eq next.0 name ≡ false) →
+other : (name : List ℕ) (line : ℕ) (words : List (List ℕ)) → IfOk (word_or_fault line words) (λ next. bytes_eq next.0 name ≡ false) →
     optional name (record { line = line; words = words }) ≡ Ok (false, record { line = line; words = words })
 other name line [] not = refl
 other name line (text ∷ words) not = rw not refl

@@ -1,10 +1,10 @@
 use Rattle.std.proofs.Common.{◌≡◌, ◌∙◌, ◌++◌, ℕ, List, OnOk, ap, append_assoc, codes, string_bytes, subst}
-use Rattle.pm_log.specs.Verdicts.{no_host}
+use Rattle.pm_log.specs.Verdicts.{no_host_text}
 use Rattle.pm_log.proofs.Texts.{pushed}
 use Rattle.pm_log.proofs.verdict_text.push_host.Goals as goal
 
 pub returns : goal.returns
-unfolding no_host
+unfolding no_host_text
 returns c =
     let text = string_bytes c.args.text.now in
     let rest = c.args.words.now in

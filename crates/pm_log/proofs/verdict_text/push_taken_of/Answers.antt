@@ -1,11 +1,11 @@
 use Rattle.std.proofs.Common.{◌≡◌, ◌∙◌, ◌++◌, ℕ, List, OnOk, ap, append_assoc, codes, string_bytes, subst}
 use Rattle.pm_lines.specs.Numbers.{hex_byte}
-use Rattle.pm_log.specs.Verdicts.{taken_of}
+use Rattle.pm_log.specs.Verdicts.{lacks_source_text}
 use Rattle.pm_log.proofs.Texts.{pushed}
 use Rattle.pm_log.proofs.verdict_text.push_taken_of.Goals as goal
 
 pub returns : goal.returns
-unfolding taken_of
+unfolding lacks_source_text
 returns c =
     let text = string_bytes c.args.text.now in
     let digits = hex_byte c.args.addr in

@@ -6,7 +6,7 @@ use Rattle.pm_memory.specs.CourseImage.{course_held}
 use Rattle.pm_memory.specs.Guard.{guard_of}
 use Rattle.pm_memory.specs.Hosted.{guard_in}
 use Rattle.pm_memory.specs.Course.{HandsOutIn, IsPut, hands_out, refused_frame, sent_number}
-use Rattle.pm_memory.proofs.Frames.{numbered}
+use Rattle.pm_memory.proofs.Calls.{numbered}
 use Rattle.pm_memory.proofs.course.hand_out.Goals as goal
 
 pub returns-in-Err : goal.returns-in-Err

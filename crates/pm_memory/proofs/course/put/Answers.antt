@@ -5,7 +5,7 @@ use Rattle.pm_host.specs.Summary.{Summary, stage_message}
 use Rattle.pm_memory.specs.Hosted.{guard_in}
 use Rattle.pm_memory.specs.Sending.{IsSending}
 use Rattle.pm_memory.specs.Course.{IsPut}
-use Rattle.pm_memory.proofs.Frames.{sends}
+use Rattle.pm_memory.proofs.Calls.{sends}
 use Rattle.pm_memory.proofs.course.put.Goals as goal
 
 pub returns-in-Some : goal.returns-in-Some

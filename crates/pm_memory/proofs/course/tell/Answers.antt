@@ -14,7 +14,7 @@ use Rattle.pm_memory.specs.Hosted.{guard_in}
 use Rattle.pm_memory.specs.declared.host_step.HostStep.{HostStep}
 use Rattle.pm_memory.specs.Course.{HearsIn, heard_step, hears_it, refused_told, unasked}
 use Rattle.pm_memory.specs.Host.{host_step, told_fault}
-use Rattle.pm_memory.proofs.Frames.{fault-at, hears-by}
+use Rattle.pm_memory.proofs.Calls.{fault-at, hears-by}
 use Rattle.pm_memory.proofs.course.tell.Goals as goal
 
 pub returns-in-Err : goal.returns-in-Err

@@ -17,7 +17,7 @@ use Rattle.pm_memory.specs.Memory.{IsMemory}
 use Rattle.pm_memory.specs.declared.host_step.HostStep.{HostStep}
 use Rattle.pm_memory.specs.Course.{HearsOnIn, IsAfter, IsPut, heard_step, hears_on, refused_both, unasked_both}
 use Rattle.pm_memory.specs.Host.{host_step, told_fault}
-use Rattle.pm_memory.proofs.Frames.{fault-at, hears-by, output-stays}
+use Rattle.pm_memory.proofs.Calls.{fault-at, hears-by, output-stays}
 use Rattle.pm_memory.proofs.course.tell_and_send.Goals as goal
 
 pub returns-in-Err : goal.returns-in-Err

@@ -1,4 +1,4 @@
-use Rattle.pm_memory.proofs.Sequences.{hearings, sequences}
+use Rattle.pm_memory.proofs.Kept.{hearings, sequences}
 use Rattle.pm_memory.proofs.laws.sequences_are_kept.Goals as goal
 
 pub returns-clause-written : goal.returns-clause-written

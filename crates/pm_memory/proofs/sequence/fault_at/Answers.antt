@@ -5,7 +5,7 @@ use Rattle.std.proofs.lemmas.Option.{slice_get_past, slice_get_read}
 use Rattle.pm_memory.specs.declared.sequence_step.SequenceStepImage.{SequenceStepImage}
 use Rattle.pm_memory.specs.Sequence.{step_read}
 use Rattle.pm_memory.specs.SequenceStep.{step_in}
-use Rattle.pm_memory.proofs.SequenceCalls.{one-err}
+use Rattle.pm_memory.proofs.Calls.{one-err}
 use Rattle.pm_memory.proofs.sequence.fault_at.Goals as goal
 
 pub returns-in-Some : goal.returns-in-Some

@@ -4,7 +4,7 @@ use Rattle.pm_host.specs.declared.fault.Untold.TheVariants.{NothingSent, WrongKi
 use Rattle.pm_host.specs.declared.host.Step.{Step}
 use Rattle.pm_host.specs.declared.stage.Stage.{Stage}
 use Rattle.pm_host.specs.declared.stage.Stage.TheVariants.{Writes, Reads, Asks, Sends}
-use Rattle.pm_host.specs.Sound.{HasWord, IsSound}
+use Rattle.pm_host.specs.Sound.{AcceptsWrittenWord, IsSound}
 use Rattle.pm_host.specs.Summary.{Summary, stage_message, step_of}
 use Rattle.pm_host.specs.Told.{entry_told, is_awaited}
 use Rattle.pm_course.specs.Frames as frames
@@ -19,8 +19,7 @@ use Rattle.pm_memory.specs.declared.host_step.HostStep.{HostStep}
 use Rattle.pm_memory.specs.Course.{heard_step}
 use Rattle.pm_memory.specs.Host.{host_step, told_fault}
 use Rattle.pm_memory.specs.Sequence.{hears_it, unasked, HearsIn}
-use Rattle.pm_memory.proofs.Frames.{fault-at}
-use Rattle.pm_memory.proofs.SequenceCalls.{none-open, some-open, told-at, unheard}
+use Rattle.pm_memory.proofs.Calls.{fault-at, none-open, some-open, told-at, unheard}
 use Rattle.pm_memory.proofs.sequence.hear.Goals as goal
 
 pub returns-in_default : goal.returns-in_default
@@ -55,7 +54,7 @@ returns-then-not-has_course c =
     (unasked g q q NothingSent c.requires.both
     (nothing (none-open (course_open q.list.stairs) (sym c.has_course.ensures ∙ c.if-not-has_course.true))))
 
-word-at : (s : Summary) (at : Stage) → IsSound s → s.stage ≡ Some at → HasWord at
+word-at : (s : Summary) (at : Stage) → IsSound s → s.stage ≡ Some at → AcceptsWrittenWord at
 word-at s (Writes cell word pass) sound opened = search rules
 word-at s (Reads cell word pass) sound opened = tt
 word-at s (Asks question tries) sound opened = tt

@@ -9,7 +9,7 @@ use Rattle.pm_memory.specs.Hosted.{guard_in}
 use Rattle.pm_memory.specs.SequenceImage.{sequence_image, sequence_meant}
 use Rattle.pm_memory.specs.declared.sequence_step.SequenceRecordImage.{SequenceRecordImage}
 use Rattle.pm_memory.specs.Sequence.{hands_next, number_sent, records_after, refused_next, step_at, step_under, AreAsked, NextIn}
-use Rattle.pm_memory.proofs.SequenceCalls.{fault-steps, no-first, no-second, numbered}
+use Rattle.pm_memory.proofs.Calls.{fault-steps, no-first, no-second, calls_numbered}
 use Rattle.pm_memory.proofs.sequence.next.Goals as goal
 
 pub returns-in-Err : goal.returns-in-Err
@@ -59,7 +59,8 @@ returns c =
     let does : HandsOut g under ahead q put.sent act next is =
     subst (λ (x : Sequence). HandsOut g under ahead x put.sent act next is) c.hold.ensures
     (c.hand_out-at.ensures.hands put.sent put.of_stage) in
-    let number : c.number_next.result ≡ number_sent put.sent act = c.number_next.ensures ∙ numbered next at put.sent act put.of_stage in
+    let number : c.number_next.result ≡ number_sent put.sent act =
+    c.number_next.ensures ∙ calls_numbered next at put.sent act put.of_stage in
     subst (λ (n : ℕ). NextIn host image steps records n new c.write.new.self c.keep.new.records c.put.new.sending) (sym number)
     (subst (λ (i : SequenceImage). NextIn host image steps records (number_sent put.sent act) new i c.keep.new.records c.put.new.sending)
     (sym c.write.ensures)

@@ -1,7 +1,7 @@
 use Rattle.std.proofs.Common.{sym}
 use Rattle.pm_memory.specs.Guard.{guard_of}
 use Rattle.pm_memory.specs.SequenceImage.{sequence_in}
-use Rattle.pm_memory.proofs.SequenceCalls.{fault-both}
+use Rattle.pm_memory.proofs.Calls.{fault-both}
 use Rattle.pm_memory.proofs.sequence.read.Goals as goal
 
 pub returns-in-Err-clause-fault : goal.returns-in-Err-clause-fault

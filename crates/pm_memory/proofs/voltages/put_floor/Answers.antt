@@ -2,9 +2,9 @@ use Rattle.std.proofs.Common.{◌≡◌, ◌^◌, ◌<◌, false, ℤ, pos, neg_
 use Rattle.std.proofs.lemmas.Bool.{or_parts}
 use Rattle.std.proofs.lemmas.Int.{ints}
 use Rattle.std.specs.Int.{w128}
-use Rattle.pm_num.specs.Ratio.{Ratio}
+use Rattle.pm_num.specs.Ratio.{Ratio, is_far}
 use Rattle.pm_num.specs.Lemmas.Integers.{le_from_times, not_less}
-use Rattle.pm_memory.specs.Voltages.{is_far, IsFloor, IsNear}
+use Rattle.pm_memory.specs.Voltages.{IsFloor, IsNear}
 use Rattle.pm_memory.proofs.voltages.put_floor.Goals as goal
 
 -- the floor of a value that isn't beyond the numbers' ends lies within them

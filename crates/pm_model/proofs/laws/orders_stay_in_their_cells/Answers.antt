@@ -1,4 +1,4 @@
-use Rattle.pm_model.proofs.OrderLemmas.{machine-start, machine-pending, machine-own, machine-protection, machine-stored}
+use Rattle.pm_model.proofs.MapLaws.{machine-start, machine-pending, machine-own, machine-protection, machine-stored}
 use Rattle.pm_model.proofs.laws.orders_stay_in_their_cells.Goals as goal
 
 pub returns : goal.returns

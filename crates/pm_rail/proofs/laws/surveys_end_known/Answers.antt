@@ -1,4 +1,4 @@
-use Rattle.pm_rail.specs.Lemmas.Surveyed.{asks, format, known, protection, unread, whole}
+use Rattle.pm_rail.specs.Lemmas.Surveyed.{asking_takes_a_try, format, known, protection, unread, whole_part_lacks_none}
 use Rattle.pm_rail.proofs.SurveyBand.{band}
 use Rattle.pm_rail.proofs.laws.surveys_end_known.Goals as goal
 
@@ -7,8 +7,8 @@ returns c = record {
   format = format;
   known = known;
   protection = protection;
-  asks = asks;
-  whole = whole;
+  asks = asking_takes_a_try;
+  whole = whole_part_lacks_none;
   unread = unread;
   band = band;
 }

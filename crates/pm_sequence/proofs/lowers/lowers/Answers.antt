@@ -2,7 +2,7 @@ use Rattle.std.proofs.Common.{◌≡◌, true, rules, ◌∙◌, sym, ap, Option
 use Rattle.std.specs.Prelude.{nat_lt}
 use Rattle.pm_stairs.specs.declared.stairs.Under.{Under}
 use Rattle.pm_sequence.specs.Lowers.{lowers}
-use Rattle.pm_sequence.proofs.Seen.{lowers-seen}
+use Rattle.pm_sequence.proofs.SequenceFrames.{lowers-seen}
 use Rattle.pm_sequence.proofs.lowers.lowers.Goals as goal
 
 pub returns-else-under-ge8 : goal.returns-else-under-ge8

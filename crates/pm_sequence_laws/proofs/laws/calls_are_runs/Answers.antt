@@ -1,4 +1,4 @@
-use Rattle.pm_sequence_laws.proofs.Handed.{calls-run}
+use Rattle.pm_sequence_laws.proofs.Calls.{calls-run}
 use Rattle.pm_sequence_laws.proofs.laws.calls_are_runs.Goals as goal
 
 pub returns : goal.returns

@@ -1,4 +1,4 @@
-use Rattle.pm_sequence_laws.proofs.CourseCalls.{steps}
+use Rattle.pm_sequence_laws.proofs.Calls.{steps}
 use Rattle.pm_sequence_laws.proofs.laws.exports_are_steps_beside.Goals as goal
 
 pub returns : goal.returns

@@ -1,4 +1,4 @@
-use Rattle.pm_sequence_laws.proofs.Handed.{orders-once}
+use Rattle.pm_sequence_laws.proofs.Calls.{orders-once}
 use Rattle.pm_sequence_laws.proofs.laws.orders_go_once.Goals as goal
 
 pub returns : goal.returns

@@ -1,4 +1,4 @@
-use Rattle.pm_sequence_laws.proofs.SequenceCalls.{runs-in-memory}
+use Rattle.pm_sequence_laws.proofs.Calls.{runs-in-memory}
 use Rattle.pm_sequence_laws.proofs.laws.sequence_calls_are_runs.Goals as goal
 
 pub returns : goal.returns

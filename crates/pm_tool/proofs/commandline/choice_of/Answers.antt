@@ -1,7 +1,7 @@
 use Rattle.std.proofs.Common.{rules, ◌≡◌, ◌∙◌, Bool, true, false, cond, List, [], ap, codes, option_map, refl, unwrap_or}
 use Rattle.clap.specs.Words.{Row, Text, first_value, found_of, rows_of}
 use Rattle.clap.proofs.WalkLemmas.{first_value-rows, raw_values-rows}
-use Rattle.pm_tool.specs.Commandline.{Asks, Decodes}
+use Rattle.pm_tool.specs.Commandline.{Asks, ChoosesDecode}
 use Rattle.pm_tool.specs.Lacking.{lacks_asked}
 use Rattle.pm_tool.specs.Telling.{HasTexts, is_any}
 use Rattle.pm_tool.specs.declared.commandline.choice.Chosen.{Chosen}
@@ -11,7 +11,7 @@ use Rattle.pm_tool.proofs.commandline.choice_of.Goals as goal
 
 -- what `decode` asks for, with an option or without
 decodes : (name : Text) (given : TellTexts) (rows : List Row) (chosen : Chosen) → name ≡ codes "decode" → HasTexts given rows
-    → Decodes given chosen → Asks name rows chosen
+    → ChoosesDecode given chosen → Asks name rows chosen
 decodes name given rows chosen named has is = go (is_any given) refl is
   where
     go : (any : Bool) → is_any given ≡ any → chosen ≡ cond any (Tell given) Decode → Asks name rows chosen

@@ -2,8 +2,7 @@ use Rattle.std.proofs.Common.{◌∙◌, Ok, map, refl, string_bytes}
 use Rattle.std.specs.Vec.Iter.{into_iter_items}
 use Rattle.pm_tool.specs.Arguments.{arguments_of}
 use Rattle.pm_tool.specs.Execution.{wants_memory}
-use Rattle.pm_tool.proofs.Texts.{memory_ends}
-use Rattle.pm_tool.proofs.RefusedLines.{at_most_2, kept}
+use Rattle.pm_tool.proofs.Texts.{memory_ends, at_most_2, kept}
 use Rattle.pm_tool.proofs.execution.program.Goals as goal
 
 pub returns-in_default-clause-ends : goal.returns-in_default-clause-ends

@@ -1,7 +1,7 @@
 use Rattle.std.proofs.Common.{inr, refl}
 use Rattle.clap.specs.Walk.{texts}
 use Rattle.clap.specs.Words.{fault_of}
-use Rattle.pm_tool.specs.Refusals.{no_words, no_words_status}
+use Rattle.pm_tool.specs.Refusals.{bad_arguments_words, no_words_status}
 use Rattle.pm_tool.specs.Commandline.{pmb}
 use Rattle.pm_tool.specs.Execution.{Refused}
 use Rattle.pm_tool.proofs.Texts.{usage_ends}
@@ -10,7 +10,7 @@ use Rattle.pm_tool.proofs.execution.run.Goals as goal
 pub returns-in-Err : goal.returns-in-Err
 returns-in-Err g c =
     let e = c.refuse_arguments.ensures in (
-      Refused (no_words_status c.in-Err.kind) (no_words c.in-Err.kind),
+      Refused (no_words_status c.in-Err.kind) (bad_arguments_words c.in-Err.kind),
       rw c.in-Err.is (refl, refl),
       record { status_is = e.status; printed = refl; said = e.said },
     )

@@ -1,5 +1,5 @@
 use Rattle.std.proofs.Common.{ap, Err}
-use Rattle.pm_tool.specs.NumberFaults.{refusal_words}
+use Rattle.pm_tool.specs.NumberFaults.{number_refusal_words}
 use Rattle.pm_tool.proofs.Texts.{numbered, number_refused, said_as}
 use Rattle.pm_tool.proofs.execution.run_number.Goals as goal
 
@@ -34,5 +34,6 @@ returns-in-Err g c =
       memory = λ is. e.memory (ap Err is);
       of = e.faults;
       unwritten = e.unwritten;
-      said = said_as g.E.Write.contents c.args.errors.now c.say.new.errors _ (refusal_words c.in-Err.fault) c.words.ensures c.say.ensures;
+      said = said_as g.E.Write.contents c.args.errors.now c.say.new.errors _
+          (number_refusal_words c.in-Err.fault) c.words.ensures c.say.ensures;
     }))

@@ -7,7 +7,7 @@ use Rattle.pm_num.specs.declared.fault.NumFault.{NumFault}
 use Rattle.pm_tool.specs.NumberText.{IsAnswer, Refuses, RefusesValue, rank_in, value_in}
 use Rattle.pm_tool.specs.declared.numbers.question.FormatText.{FormatText}
 use Rattle.pm_tool.specs.declared.numbers.question.FormatText.TheVariants.{Linear11, Ulinear16, Direct}
-use Rattle.pm_tool.proofs.RefusedLines.{direct_refused, refused_by_value, with_coefficients}
+use Rattle.pm_tool.proofs.Texts.{direct_refused, refused_by_value, with_coefficients}
 use Rattle.pm_tool.proofs.numbers.answer_to.Goals as goal
 
 pub returns-in-Linear11-clause-refused : goal.returns-in-Linear11-clause-refused

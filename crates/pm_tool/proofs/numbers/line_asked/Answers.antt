@@ -1,6 +1,6 @@
 use Rattle.std.proofs.Common.{◌≡◌, ◌↔◌, ap, refl, subst, Result, Ok, Err, IsErrAnd, IsErrOf}
 use Rattle.pm_num.specs.declared.fault.NumFault.{NumFault}
-use Rattle.pm_tool.specs.NumberText.{IsNumberText, Refuses, RefusesNumber, line_of}
+use Rattle.pm_tool.specs.NumberText.{IsNumberText, Refuses, RefusesNumber, number_line_of}
 use Rattle.pm_tool.specs.declared.numbers.answer.Answer.{Answer}
 use Rattle.pm_tool.specs.declared.numbers.fault.NumberFault.{NumberFault}
 use Rattle.pm_tool.specs.declared.numbers.fault.NumberFault.TheVariants.{Num}
@@ -40,7 +40,7 @@ number_refused r q n a is failed refused fault = (
 pub returns-in_err-line-clause-memory : goal.returns-in_err-line-clause-memory
 returns-in_err-line-clause-memory c = λ _.
     let answer = c.in_ok-answer.answer in
-    let text = line_of answer in (
+    let text = number_line_of answer in (
       text,
       subst (λ (q : Result Question NumberFault). IsNumberText q text) c.in_ok-question.ensures.asked
           (answer, c.in_ok-answer.ensures.answered, refl),

@@ -1,11 +1,11 @@
 use Rattle.std.proofs.Common.{◌≡◌, ◌≢◌, codes, refl, subst, sym}
 use Rattle.std.specs.declared.io.ErrorKind.{ErrorKind}
 use Rattle.std.specs.declared.io.ErrorKind.TheVariants.{OutOfMemory}
-use Rattle.pm_tool.specs.Refusals.{Says, no_words, no_words_status, program_line}
+use Rattle.pm_tool.specs.Refusals.{Says, bad_arguments_words, no_words_status, program_line}
 use Rattle.pm_tool.proofs.refusals.refuse_arguments.Goals as goal
 
 -- the arguments are bad if the words can't be had, other than for want of memory
-other_words : (kind : ErrorKind) → kind ≢ OutOfMemory → (no_words_status kind ≡ 2) × (no_words kind ≡ codes "bad arguments")
+other_words : (kind : ErrorKind) → kind ≢ OutOfMemory → (no_words_status kind ≡ 2) × (bad_arguments_words kind ≡ codes "bad arguments")
 other_words OutOfMemory other = absurd (other refl)
 other_words _ other = (refl, refl)
 

@@ -4,7 +4,7 @@ use Rattle.pm_device.specs.FaultWords.{config_fault_words, config_fault_output, 
 use Rattle.pm_device.specs.declared.config_fault.ConfigFault.{ConfigFault}
 use Rattle.pm_frame.specs.FaultWords.{place_text}
 use Rattle.pm_tool.specs.Refusals.{Says, program_line}
-use Rattle.pm_tool.proofs.RefusedLines.{lettered, line-none, line-some, put_said}
+use Rattle.pm_tool.proofs.Texts.{lettered, line-none, line-some, put_said}
 use Rattle.pm_lines.specs.Faults.{fault_words}
 use Rattle.pm_lines.specs.declared.fault.TextFault.TheVariants.{Setup}
 use Rattle.pm_setup.specs.declared.setup_fault.SetupFault.TheVariants.{Device}

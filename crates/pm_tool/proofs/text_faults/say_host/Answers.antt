@@ -1,6 +1,6 @@
 use Rattle.std.proofs.Common.{◌∙◌, subst}
 use Rattle.pm_tool.specs.Refusals.{Says}
-use Rattle.pm_tool.proofs.RefusedLines.{lettered, line-host, put_said}
+use Rattle.pm_tool.proofs.Texts.{lettered, line-host, put_said}
 use Rattle.pm_setup.specs.declared.setup_fault.SetupFault.TheVariants.{Host}
 use Rattle.pm_tool.proofs.text_faults.say_host.Goals as goal
 

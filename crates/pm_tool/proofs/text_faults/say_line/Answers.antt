@@ -1,6 +1,6 @@
 use Rattle.std.proofs.Common.{◌∙◌, ◌++◌, ap, subst, sym}
 use Rattle.pm_tool.specs.Refusals.{Says, line_words, program_line}
-use Rattle.pm_tool.proofs.RefusedLines.{line-numbered, put_said}
+use Rattle.pm_tool.proofs.Texts.{line-numbered, put_said}
 use Rattle.pm_tool.proofs.text_faults.say_line.Goals as goal
 
 pub returns-in-Some : goal.returns-in-Some

@@ -1,5 +1,5 @@
 use Rattle.std.proofs.lemmas.Str.{IsUtf8-from_ascii}
-use Rattle.pm_trace.proofs.LetterLemmas.{letters_are_ascii}
+use Rattle.pm_trace.proofs.ValueLemmas.{letters_are_ascii}
 use Rattle.pm_trace.proofs.content.text_of.Goals as goal
 
 pub unreachable-requires : goal.unreachable-requires

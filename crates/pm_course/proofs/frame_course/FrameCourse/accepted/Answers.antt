@@ -9,7 +9,7 @@ use Rattle.pm_host.specs.Summary.{Summary, format_at}
 use Rattle.pm_rail.specs.Registers.{wants_of}
 use Rattle.pm_course.specs.declared.course_end.Refusal.{Refusal}
 use Rattle.pm_course.specs.declared.frame_course.FrameCourse.{FrameCourse}
-use Rattle.pm_course.specs.Accept.{Takes, job_open, judged, near_refusal, no_format, no_plan, no_wish, not_known, taken_of, word_at}
+use Rattle.pm_course.specs.Accept.{Takes, job_open, judged, near_refusal, no_format, no_plan, no_wish, not_known, taken_of, known_word_at}
 use Rattle.pm_course.specs.Wishes.{voltage_of}
 use Rattle.pm_course.proofs.frame_course.FrameCourse.accepted.Goals as goal
 
@@ -49,7 +49,7 @@ returns-in_default-sole_at c =
     let register = c.in-Some-taken_of.register in
     let idle : is_busy s ≡ false = sym c.is_some.ensures ∙ c.if-is_some.false in
     let formed : format_at s c.args.self.now.course.survey.output ≡ Some shape = search rules in
-    let none : word_at s c.args.self.now register ≡ None = sym c.sole_at.ensures ∙ c.in_default-sole_at.is in
+    let none : known_word_at s c.args.self.now register ≡ None = sym c.sole_at.ensures ∙ c.in_default-sole_at.is in
     subst (λ (r : Refusal). Takes c.args.limits.now s c.args.self.now c.args.tolerance (Err r)) (sym c.of_plan-in_default-sole_at.ensures)
     (not_known c.in-Some.words register shape idle c.in-Some.is (sym c.taken_of.ensures ∙ c.in-Some-taken_of.is) formed none)
 
@@ -62,7 +62,7 @@ returns-in-Some-near_fault c =
     let aim = c.aim-aim.result in
     let idle : is_busy s ≡ false = sym c.is_some.ensures ∙ c.if-is_some.false in
     let formed : format_at s c.args.self.now.course.survey.output ≡ Some shape = search rules in
-    let known : word_at s c.args.self.now register ≡ Some word = sym c.sole_at.ensures ∙ c.in-Some-sole_at.is in
+    let known : known_word_at s c.args.self.now register ≡ Some word = sym c.sole_at.ensures ∙ c.in-Some-sole_at.is in
     let refuses : near_refusal c.args.limits.now (shape_value shape word) register aim c.args.tolerance ≡ Some c.in-Some-near_fault.refusal =
     sym (c.near_fault.ensures ∙ ap (λ (v : Ratio). near_refusal c.args.limits.now v register aim c.args.tolerance) c.value_of-value.ensures)
     ∙ c.in-Some-near_fault.is in
@@ -78,7 +78,7 @@ returns-in-None c =
     let aim = c.aim-aim.result in
     let idle : is_busy s ≡ false = sym c.is_some.ensures ∙ c.if-is_some.false in
     let formed : format_at s c.args.self.now.course.survey.output ≡ Some shape = search rules in
-    let known : word_at s c.args.self.now register ≡ Some word = sym c.sole_at.ensures ∙ c.in-Some-sole_at.is in
+    let known : known_word_at s c.args.self.now register ≡ Some word = sym c.sole_at.ensures ∙ c.in-Some-sole_at.is in
     let passes : near_refusal c.args.limits.now (shape_value shape word) register aim c.args.tolerance ≡ None =
     sym (c.near_fault.ensures ∙ ap (λ (v : Ratio). near_refusal c.args.limits.now v register aim c.args.tolerance) c.value_of-value.ensures)
     ∙ c.in-None.is in

@@ -11,7 +11,7 @@ use Rattle.pm_host.specs.Summary.{Summary, step_of}
 use Rattle.pm_host.specs.Transcript.{Got}
 use Rattle.pm_course.specs.Heard.{heard_by}
 use Rattle.pm_course.specs.Surprise.{is_done, surprises}
-use Rattle.pm_course.proofs.Good.{done-good, good-new}
+use Rattle.pm_course.proofs.CourseFrames.{done-good, good-new}
 use Rattle.pm_course.proofs.frame_course.FrameCourse.checked_by.Goals as goal
 
 pub heard_so-requires-clause-fault : goal.heard_so-requires-clause-fault

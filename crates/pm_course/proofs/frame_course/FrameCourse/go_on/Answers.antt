@@ -7,7 +7,7 @@ use Rattle.pm_course.specs.declared.frame_course.FrameCourse.{FrameCourse}
 use Rattle.pm_course.specs.declared.frames.Sending.{Sending}
 use Rattle.pm_course.specs.Frames.{GoesOn, SaysBy, again, begun, hands, over, refused, waits}
 use Rattle.pm_course.specs.FrameCourse.{refused_by}
-use Rattle.pm_course.proofs.Hosts.{sent-at}
+use Rattle.pm_course.proofs.CourseFrames.{sent-at}
 use Rattle.pm_course.proofs.frame_course.FrameCourse.go_on.Goals as goal
 
 pub returns-then-is_job_of-clause-goes : goal.returns-then-is_job_of-clause-goes

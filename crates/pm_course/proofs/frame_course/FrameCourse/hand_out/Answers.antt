@@ -1,4 +1,4 @@
-use Rattle.pm_course.proofs.Hosts.{never-stops}
+use Rattle.pm_course.proofs.CourseFrames.{never-stops}
 use Rattle.pm_course.proofs.frame_course.FrameCourse.hand_out.Goals as goal
 
 pub returns-clause-hands : goal.returns-clause-hands

@@ -2,7 +2,7 @@ use Rattle.std.proofs.Common.{◌≡◌, ◌∙◌, ◌++◌, Ok, ap, codes, str
 use Rattle.pm_decode.specs.Readings.{Told}
 use Rattle.pm_decode.specs.ShownReadings.{packet_in}
 use Rattle.pm_decode.specs.CaptureText.{line_text, read_line}
-use Rattle.pm_decode.specs.Hearing.{HeardLines, Known, heard_told, heard_with}
+use Rattle.pm_decode.specs.Hearing.{HeardLines, Known, heard_told, line_heard_with}
 use Rattle.pm_decode.proofs.Captures.{line_told, on_good, seen_told}
 use Rattle.pm_decode.proofs.heard_lines.HeardLines.hear_readable.Goals as goal
 
@@ -40,5 +40,5 @@ returns-in-None-clause-heard c =
     ∙ ap (λ (k : Known). heard_told options line.number (record { time = line.time; parts = Ok parts }) (with_known k))
     c.in-None.ensures.noted
     ∙ seen_told options (with_known inside.known) line.number line.time parts c.in-None.ensures.special
-    ∙ ap (λ (h : HeardLines). heard_with options h (line.number, Told (record { time = line.time; parts = Ok parts }))) c.self.view_is)
+    ∙ ap (λ (h : HeardLines). line_heard_with options h (line.number, Told (record { time = line.time; parts = Ok parts }))) c.self.view_is)
     c.hear_packet.ensures.heard

@@ -5,7 +5,7 @@ use Rattle.pm_host.specs.declared.state.State.{State}
 use Rattle.pm_host.specs.Frames.{frames_left}
 use Rattle.pm_host.specs.Image.{held}
 use Rattle.pm_host.specs.Jobs.{HasNearestWord, accepted_job}
-use Rattle.pm_host.specs.Summary.{Summary, next}
+use Rattle.pm_host.specs.Summary.{Summary, host_next}
 use Rattle.pm_host.specs.Transcript.{Accepted}
 use Rattle.pm_limits.specs.declared.output_limits.OutputLimits.{OutputLimits}
 use Rattle.pm_limits.specs.declared.part_registers.PartRegisters.{PartRegisters}
@@ -14,7 +14,7 @@ use Rattle.pm_limits.specs.Guard.{BeginsUnless, guard_fault, limited_fault}
 use Rattle.pm_memory.specs.declared.guard_image.GuardImage.{GuardImage}
 use Rattle.pm_memory.specs.Guard.{job_limits, limits_kept}
 use Rattle.pm_memory.specs.Hosted.{IsThere, guard_in}
-use Rattle.pm_memory.proofs.Courses.{limits-stay, means, there-of}
+use Rattle.pm_memory.proofs.Kept.{limits-stay, means, there-of}
 use Rattle.pm_memory.proofs.guard_image.GuardImage.begin_job.Goals as goal
 
 pub returns-in-Ok-clause-there : goal.returns-in-Ok-clause-there
@@ -39,8 +39,8 @@ returns-in-Ok-clause-begins c =
           ∙ ap (λ (r : PartRegisters). limited_fault r c.limits_for-limits.result s0 job) c.registers-registers.ensures
           ∙ ap (λ (l : OutputLimits). limited_fault old.registers l s0 job) c.limits_for-limits.ensures
           ∙ ap (λ (x : Summary). limited_fault old.registers (job_limits (limits_kept was) job) x job) whole;
-      ok = subst (λ (y : Summary). IsSomeAnd (accepted_job old.host job) (λ begun. y ≡ next old.host (Accepted begun))) (sym is)
-          (subst (λ (x : Summary). IsSomeAnd (accepted_job x job) (λ begun. s ≡ next x (Accepted begun))) whole did.ok);
+      ok = subst (λ (y : Summary). IsSomeAnd (accepted_job old.host job) (λ begun. y ≡ host_next old.host (Accepted begun))) (sym is)
+          (subst (λ (x : Summary). IsSomeAnd (accepted_job x job) (λ begun. s ≡ host_next x (Accepted begun))) whole did.ok);
       nearest = subst (λ (x : Summary). HasNearestWord x job) whole did.nearest;
       err = tt;
       limits = limits-stay was c.write_stage.new.self;

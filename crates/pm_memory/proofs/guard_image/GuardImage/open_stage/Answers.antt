@@ -1,7 +1,7 @@
 use Rattle.std.proofs.Common.{ap, refl, sym}
 use Rattle.pm_host.specs.Image.{held}
 use Rattle.pm_host.specs.Summary.{Summary}
-use Rattle.pm_memory.proofs.Courses.{found-in, means, there-of}
+use Rattle.pm_memory.proofs.Kept.{found-in, means, there-of}
 use Rattle.pm_memory.proofs.guard_image.GuardImage.open_stage.Goals as goal
 
 pub returns-in-Ok-clause-there : goal.returns-in-Ok-clause-there

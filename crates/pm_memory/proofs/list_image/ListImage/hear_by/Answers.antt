@@ -1,6 +1,6 @@
 use Rattle.std.proofs.Common.{refl}
 use Rattle.std.proofs.lemmas.Bool.{ne_eqb}
-use Rattle.pm_memory.proofs.Sequences.{open-under}
+use Rattle.pm_memory.proofs.Kept.{open-under}
 use Rattle.pm_memory.proofs.list_image.ListImage.hear_by.Goals as goal
 
 pub returns-clause-hears : goal.returns-clause-hears

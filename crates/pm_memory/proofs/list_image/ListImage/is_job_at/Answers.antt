@@ -2,7 +2,7 @@ use Rattle.std.proofs.Common.{◌∙◌, ap, sym}
 use Rattle.pm_course.specs.declared.frame_course.FrameCourse.{FrameCourse}
 use Rattle.pm_course.specs.Heard.{is_job_of}
 use Rattle.std.proofs.lemmas.Bool.{ne_eqb}
-use Rattle.pm_memory.proofs.Sequences.{job-at}
+use Rattle.pm_memory.proofs.Kept.{job-at}
 use Rattle.pm_memory.proofs.list_image.ListImage.is_job_at.Goals as goal
 
 pub returns-then-has_step : goal.returns-then-has_step

@@ -3,7 +3,7 @@ use Rattle.pm_host.specs.Told.{entry_told}
 use Rattle.pm_stairs.specs.Sequence.{heard_with}
 use Rattle.pm_sequence.specs.Frames.{course, list_heard, shows_restart_at}
 use Rattle.pm_memory.specs.SequenceImage.{sequence_meant}
-use Rattle.pm_memory.proofs.Sequences.{list-put}
+use Rattle.pm_memory.proofs.Kept.{list-put}
 use Rattle.pm_memory.proofs.sequence_image.SequenceImage.hear_by.Goals as goal
 
 pub returns-clause-hears : goal.returns-clause-hears

@@ -1,5 +1,5 @@
 use Rattle.std.proofs.Common.{rules, sym, ◌∙◌}
-use Rattle.pm_model.proofs.Accepted.{accepted_settings}
+use Rattle.pm_model.proofs.MapLaws.{accepted_settings}
 use Rattle.pm_model.proofs.plain.Plain.of.Goals as goal
 
 pub invariant_of-result : goal.invariant_of-result

@@ -1,6 +1,6 @@
 use Rattle.std.proofs.Common.{◌≡◌, Some, subst}
 use Rattle.pm_model.specs.Settings.{Settings, settings_in}
-use Rattle.pm_model.proofs.Accepted.{settings_again}
+use Rattle.pm_model.proofs.MapLaws.{settings_again}
 use Rattle.pm_model.proofs.plain.Plain.words.Goals as goal
 
 pub returns-clause-back : goal.returns-clause-back

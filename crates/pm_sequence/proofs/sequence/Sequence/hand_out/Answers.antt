@@ -1,7 +1,7 @@
 use Rattle.std.proofs.Common.{◌≡◌, ◌∙◌, Option, Some, sym, subst}
 use Rattle.pm_host.specs.declared.stage.Stage.{Stage}
 use Rattle.pm_sequence.specs.Frames.{again, unsent}
-use Rattle.pm_sequence.proofs.Hosts.{IsSentBy, sent-by}
+use Rattle.pm_sequence.proofs.SequenceFrames.{IsSentBy, sent-by}
 use Rattle.pm_sequence.proofs.sequence.Sequence.hand_out.Goals as goal
 
 pub returns-then-not-is_unsent-clause-hands : goal.returns-then-not-is_unsent-clause-hands

@@ -6,7 +6,7 @@ use Rattle.pm_sequence.specs.declared.sequence.Act.{Act}
 use Rattle.pm_sequence.specs.declared.sequence.Sequence.{Sequence}
 use Rattle.pm_sequence.specs.declared.step.Step.{Step}
 use Rattle.pm_sequence.specs.Frames.{HandsOut, begins, refused, refusal_end, refused_act, refused_after, says}
-use Rattle.pm_sequence.proofs.Hosts.{IsSentBy, sent-by}
+use Rattle.pm_sequence.proofs.SequenceFrames.{IsSentBy, sent-by}
 use Rattle.pm_sequence.proofs.sequence.Sequence.hand_out_next.Goals as goal
 
 -- nothing of what is named changes where the guard refuses it

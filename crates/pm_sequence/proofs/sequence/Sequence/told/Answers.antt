@@ -6,7 +6,7 @@ use Rattle.pm_course.specs.Frames as course
 use Rattle.pm_course.specs.Lemmas.Awaited.{comes-awaited}
 use Rattle.pm_stairs.specs.OpenCourse.{course_open}
 use Rattle.pm_sequence.specs.Frames.{nothing}
-use Rattle.pm_sequence.proofs.Hosts.{hears-told, unheard}
+use Rattle.pm_sequence.proofs.SequenceFrames.{hears-told, unheard}
 use Rattle.pm_sequence.proofs.sequence.Sequence.told.Goals as goal
 
 pub returns-in_default-clause-hears : goal.returns-in_default-clause-hears

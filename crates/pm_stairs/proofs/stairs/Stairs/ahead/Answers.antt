@@ -8,7 +8,7 @@ use Rattle.pm_stairs.specs.declared.said.StepEnd.TheVariants.{Course}
 use Rattle.pm_stairs.specs.declared.stairs.Move.TheVariants.{Stops}
 use Rattle.pm_stairs.specs.declared.stairs.Stairs.{Stairs}
 use Rattle.pm_stairs.specs.declared.step.WordStep.{WordStep}
-use Rattle.pm_stairs.specs.Stairs.{AsksAhead, GoesAhead, HasWords, asks, coming_course, reading_for, unformed}
+use Rattle.pm_stairs.specs.Stairs.{AsksAhead, GoesAhead, HasWords, asks, coming_course, stairs_reading_for, unformed}
 use Rattle.pm_stairs.specs.Steps.{step_with}
 use Rattle.pm_stairs.proofs.stairs.Stairs.ahead.Goals as goal
 
@@ -22,7 +22,7 @@ returns-in-Err g c =
     c.words_by.ensures) in
     subst (λ (s : Stairs). GoesAhead (g.S.Sight.guarded c.args.guard.now) c.args.tries c.args.step.now c.args.self.now
     (Stops (Course (Refused c.in-Err.refusal))) s)
-    (sym (c.reads_for.ensures ∙ ap (λ (course : FrameCourse). reading_for c.args.self.now course) c.coming_course-course.ensures))
+    (sym (c.reads_for.ensures ∙ ap (λ (course : FrameCourse). stairs_reading_for c.args.self.now course) c.coming_course-course.ensures))
     (unformed c.in-Err.refusal none)
 
 pub returns-in-Ok : goal.returns-in-Ok

@@ -2,7 +2,7 @@ use Rattle.std.proofs.Common.{◌≡◌, ◌∷◌, Bool, List, MatchBool, Ok, [
 use Rattle.std.specs.Result.{IfOk}
 use Rattle.std.specs.Str.{bytes_eq}
 use Rattle.pm_lines.specs.Lines.{WordsLeft, is_next}
-use Rattle.pm_text.specs.Readers.{IsNotNext, first_word, word}
+use Rattle.pm_text.specs.Readers.{IsNotNext, word_or_fault, word}
 use Rattle.pm_text.proofs.scenario.fields.Fields.takes.Goals as goal
 
 -- the next word is the one that was taken
@@ -23,7 +23,7 @@ other before after text true words is = absurd (cc)
 other before after text false words is = first before.words words
   where
     first : (words : List (List ℕ)) → is_next text words ≡ false
-        → IfOk (first_word before.line words) (λ next. bytes_eq next.0 text ≡ false)
+        → IfOk (word_or_fault before.line words) (λ next. bytes_eq next.0 text ≡ false)
     first [] not = tt
     first (next ∷ rest) not = not
 
